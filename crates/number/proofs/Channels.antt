@@ -1,0 +1,108 @@
+-- Laws of channels: what a number becomes, and the 16-bit form. Assumes nothing.
+use mathlib.Core.Path.{_≡_, refl, sym, ap, _∙_, subst, subst₂}
+use mathlib.Core.Logic.{_↔_, ⊎-elim}
+use Prim.Native.Nat.{ℕ, _+_, _-_, _*_, _/_, _%_, _^_, _≤_, _<_}
+use native.Mathlib.Nat.{eq-or-lt-of-le, lt-irrefl, lt-of-not-le, lt-trans, mul-pos}
+use native.Mathlib.Decide.{decLe}
+use native.Mathlib.Omega.{arith}
+use mathlib.Core.Bool.{Bool, true, false, cond, _&&_}
+use lib.Dec.{leb, eqb}
+use borrow.Author.Tests.{le-leb, lt-leb, eq-eqb, ne-eqb, leb-true, eqb-true}
+use lib.Pow.{pow-pos}
+use Rattle.number.specs.Fractions.{Frac, _over_, Equal, AtMost, Below}
+use Rattle.number.specs.Storing.{Scales, Stores, unit, worth, storedOf}
+use Rattle.number.specs.Channels.{blackPower, brightPower, blackLimit, brightLimit, channelOf, leastExponent, greatestExponent, leastMantissa, IsLit, IsChannel, worthOf, codeOf, channelOfCode}
+use Rattle.number.specs.declared.channel.Channel.{Channel}
+use Rattle.number.specs.declared.channel.Channel.the-variants.{Black, Lit}
+use Rattle.number.specs.declared.channel.Decoded.the-variants.{Holds, Refuses}
+use Rattle.number.specs.declared.ratio.Stored.{Stored}
+use Rattle.refusal.specs.declared.Refusal.the-variants.{TooBright, InvalidChannel}
+use Rattle.number.proofs.Scaling.{denominator-pos, rescale, at-most-down, above-down, at-most-up, above-up}
+use Rattle.number.proofs.Storing.{unit-pos, found, stored, kept, code-less}
+
+-- ---- the three outcomes
+
+pub black : (F : Frac) → AtMost F blackLimit → channelOf F ≡ Holds Black
+unfolding channelOf
+black F h = simp (le-leb _ _ (h .cross))
+
+pub bright : (F : Frac) → Below blackLimit F → Below brightLimit F → channelOf F ≡ Refuses TooBright
+unfolding channelOf
+bright F a h = simp (lt-leb _ _ (a .cross), lt-leb _ _ (h .cross))
+
+pub lit : {F : Frac} {E M : ℕ} → Stores F E M → Below blackLimit F → AtMost F brightLimit → channelOf F ≡ Holds (Lit E M)
+unfolding channelOf
+lit {F} s a b =
+    simp (lt-leb _ _ (a .cross), le-leb _ _ (b .cross))
+    (ap (λ (r : Stored). Holds (Lit (r .exponent) (r .mantissa))) (found s (record { cross = refl }) (denominator-pos s)))
+
+-- ---- by the exponent that scales F
+
+module _ {F : Frac} {i j M : ℕ} (s : Scales F i j M) where
+  pub black-at : j + 128 < i + leastExponent → channelOf F ≡ Holds Black
+  black-at h = black F (at-most-down s blackPower (omega arith))
+
+  pub bright-at : i + greatestExponent < j + 128 → channelOf F ≡ Refuses TooBright
+  bright-at h = bright F (above-down s blackPower (omega arith)) (above-up s brightPower (omega arith))
+
+  pub lit-at : i + leastExponent ≤ j + 128 → j + 128 ≤ i + greatestExponent → channelOf F ≡ Holds (Lit (j + 128 - i) M)
+  lit-at l h = lit (rescale s (omega arith)) (above-down s blackPower (omega arith)) (at-most-up s brightPower (omega arith))
+
+-- ---- the 16-bit form and the channel determine each other
+
+pub code-channel : (c : Channel) → IsChannel c → channelOfCode (codeOf c) ≡ Holds c
+unfolding channelOfCode
+code-channel Black t = refl
+code-channel (Lit E M) t =
+    let high : (256 * E + M) / 256 ≡ E = omega arith in
+    let low : (256 * E + M) % 256 ≡ M = omega arith in
+    simp (ne-eqb (256 * E + M) 0 (λ e. omega arith), high, low, le-leb leastExponent E (t .exponent-least), le-leb E greatestExponent (t .exponent-most), le-leb leastMantissa M (t .mantissa-least))
+
+-- a channel and the number that it came from
+pub record Coded (n : ℕ) (c : Channel) : Type 0 where
+  pub code : codeOf c ≡ n
+  pub valid : IsChannel c
+
+pub channel-code : (n : ℕ) (c : Channel) → channelOfCode n ≡ Holds c → Coded n c
+unfolding channelOfCode
+channel-code n c h = go (eqb n 0) (leb leastExponent E) (leb E greatestExponent) (leb leastMantissa M) refl refl refl refl h
+  where
+    E : ℕ
+    E = n / 256
+
+    M : ℕ
+    M = n % 256
+
+    go : (z a b d : Bool) → eqb n 0 ≡ z → leb leastExponent E ≡ a → leb E greatestExponent ≡ b → leb leastMantissa M ≡ d
+        → cond z (Holds Black) (cond (a && b && d) (Holds (Lit E M)) (Refuses InvalidChannel)) ≡ Holds c → Coded n c
+    go true a b d z₁ a₁ b₁ d₁ q =
+        let e : Black ≡ c = cc in subst (Coded n) e (record { code = sym (eqb-true n 0 z₁); valid = tt })
+    go false true true true z₁ a₁ b₁ d₁ q =
+        let e : Lit E M ≡ c = cc in
+        subst (Coded n) e
+        (record {
+          code = omega arith;
+          valid = record {
+            exponent-least = leb-true _ _ a₁;
+            exponent-most = leb-true _ _ b₁;
+            mantissa-least = leb-true _ _ d₁;
+            mantissa-most = omega arith;
+          };
+        })
+    go false true true false z₁ a₁ b₁ d₁ q = let z : _≡_ {A = ℕ} 0 1 = cc in absurd (omega arith)
+    go false true false d z₁ a₁ b₁ d₁ q = let z : _≡_ {A = ℕ} 0 1 = cc in absurd (omega arith)
+    go false false b d z₁ a₁ b₁ d₁ q = let z : _≡_ {A = ℕ} 0 1 = cc in absurd (omega arith)
+
+-- the order of the 16-bit forms is that of the worths
+pub code-order : (c c′ : Channel) → IsChannel c → IsChannel c′ → (codeOf c < codeOf c′) ↔ Below (worthOf c) (worthOf c′)
+code-order Black Black t t′ = (λ h. absurd (omega arith), λ h. absurd (omega (arith, h .cross)))
+code-order Black (Lit E M) t t′ =
+    (λ h. record { cross = omega (arith, mul-pos (mul-pos {m = 2 * M + 1} (omega arith) (pow-pos E)) unit-pos) }, λ h. omega (arith, t′ .mantissa-least))
+code-order (Lit E M) Black t t′ = (λ h. absurd (omega arith), λ h. absurd (omega (arith, h .cross)))
+code-order (Lit E M) (Lit E′ M′) t t′ = (
+  λ h. code-less E M E′ M′ (t .mantissa-most) (t′ .mantissa-least) (t′ .mantissa-most) h,
+  λ h. lt-of-not-le (λ g. ⊎-elim (λ e. equal e h) (λ l. lt-irrefl _ (lt-trans (h .cross) (code-less E′ M′ E M (t′ .mantissa-most) (t .mantissa-least) (t .mantissa-most) l .cross))) (eq-or-lt-of-le g)),
+)
+  where
+    equal : 256 * E′ + M′ ≡ 256 * E + M → Below (worth E M) (worth E′ M′) → ⊥
+    equal e h = lt-irrefl _ (subst₂ (λ (x m : ℕ). Below (worth E M) (worth x m)) (omega arith) (omega arith) h .cross)

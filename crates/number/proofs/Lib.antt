@@ -1,0 +1,5 @@
+pub mod Normals
+pub mod Scaling
+pub mod Sticky
+pub mod Storing
+pub mod Channels

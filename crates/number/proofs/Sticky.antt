@@ -1,0 +1,95 @@
+-- Cutting a number without losing on which side of a boundary it lies. Assumes nothing.
+use mathlib.Core.Path.{_≡_, sym, ap, _∙_, subst}
+use mathlib.Core.Logic.{⊎-elim}
+use Prim.Native.Nat.{ℕ, _+_, _-_, _*_, _^_, _≤_, _<_, min}
+use native.Mathlib.Nat.{
+  add-sub-of-le,
+  eq-zero-or-pos,
+  le-of-lt,
+  lt-of-le-of-lt,
+  lt-of-lt-of-le,
+  lt-of-mul-lt-mul-right,
+  lt-of-not-le,
+  mul-le-mul-right,
+  mul-lt-mul-of-pos-right,
+  mul-pos,
+}
+use native.Mathlib.Omega.{arith}
+use lib.Pow.{pow-pos, pow-add}
+use Rattle.number.specs.Fractions.{Frac, _over_, Equal, Below}
+use Rattle.number.specs.Storing.{Normal, Scales}
+use Rattle.number.proofs.Normals.{mantissa-most, floor, ceiling, cell}
+use Rattle.number.proofs.Scaling.{same, at-most-up}
+
+-- F lies strictly between the neighbours a / b and (a + 1) / b
+pub record Between (a b : ℕ) (F : Frac) : Type 0 where
+  pub lower : Below (a over b) F
+  pub upper : Below F (a + 1 over b)
+
+-- between the same neighbours, for a b that is a multiple of 256, the mantissa is the same
+module _ {x u M : ℕ} (x′ u′ a g : ℕ) (s : Normal x u M) (h : Between a (256 * g) (x over u)) (h′ : Between a (256 * g) (x′ over u′)) where
+  above : (c : ℕ) → c * u ≤ x * (256 * g) → c * u′ < x′ * (256 * g)
+  above c l = lt-of-le-of-lt (mul-le-mul-right u′ (omega (arith, lt-of-mul-lt-mul-right u {m = c} (lt-of-le-of-lt l (h .upper .cross))))) (h′ .lower .cross)
+
+  below : (c : ℕ) → x * (256 * g) ≤ c * u → x′ * (256 * g) < c * u′
+  below c l = lt-of-lt-of-le (h′ .upper .cross) (mul-le-mul-right u′ (omega (arith, lt-of-mul-lt-mul-right u {m = a} (lt-of-lt-of-le (h .lower .cross) l))))
+
+  neighbours : Normal x′ u′ M
+  neighbours =
+      cell
+      (lt-of-mul-lt-mul-right (128 * g) (omega (arith, above (128 * g) (omega (arith, mul-le-mul-right (128 * g) (s .above-half))))))
+      (mantissa-most s)
+      (le-of-lt (lt-of-mul-lt-mul-right g (omega (arith, above (M * g) (omega (arith, mul-le-mul-right g (floor s)))))))
+      (lt-of-mul-lt-mul-right g (omega (arith, below ((M + 1) * g) (omega (arith, mul-le-mul-right g (ceiling s))))))
+
+-- two numbers between the same neighbours, of at least 128, have the same exponent and mantissa
+pub sticky : {F G : Frac} {i j M a b : ℕ} → Scales F i j M → 128 * b ≤ a → Between a b F → Between a b G → Scales G i j M
+sticky {F} {G} {i} {j} {M} {a} {b} s l h h′ =
+    record { normal = neighbours (G .num * 2 ^ i) (G .den * 2 ^ j) a (b * 2 ^ k) (s .normal) (widen h) (widen h′) }
+  where
+    k : ℕ
+    k = j - (i + 8)
+
+    large : i + 8 ≤ j
+    large = omega (arith, lt-of-not-le (λ (g : j ≤ i + 7). clash (at-most-up s 7 g .cross)))
+      where
+        clash : F .num * 1 ≤ 2 ^ 7 * F .den → ⊥
+        clash g = omega (arith, h .lower .cross, mul-le-mul-right b g, mul-le-mul-right (F .den) l)
+
+    grid : 2 ^ i * (256 * (b * 2 ^ k)) ≡ b * 2 ^ j
+    grid =
+        regroup (2 ^ i) (2 ^ k) ∙ ap (λ (z : ℕ). b * z) (sym (pow-add 2 (i + 8) k ∙ ap (λ (z : ℕ). z * 2 ^ k) (pow-add 2 i 8)) ∙ ap (λ (z : ℕ). 2 ^ z) (add-sub-of-le large))
+      where
+        regroup : (p q : ℕ) → p * (256 * (b * q)) ≡ b * (p * 256 * q)
+        regroup p q = omega arith
+
+    widen : {H : Frac} → Between a b H → Between a (256 * (b * 2 ^ k)) (H .num * 2 ^ i over H .den * 2 ^ j)
+    widen {H} t = stretch (2 ^ i) (2 ^ j) (256 * (b * 2 ^ k)) (pow-pos j) grid
+      where
+        stretch : (p q w : ℕ) → 0 < q → p * w ≡ b * q → Between a w (H .num * p over H .den * q)
+        stretch p q w o f =
+            record {
+              lower = record { cross = omega (arith, ap (λ (z : ℕ). H .num * z) f, mul-lt-mul-of-pos-right (t .lower .cross) o) };
+              upper = record { cross = omega (arith, ap (λ (z : ℕ). H .num * z) f, mul-lt-mul-of-pos-right (t .upper .cross) o) };
+            }
+
+-- A number a · p + r, with r below p, may be cut to a with one more binary digit, which says whether r is not 0: what is stored is the same.
+-- b divides both.
+pub cut : (a r p b : ℕ) {i j M : ℕ} → 128 * b ≤ a → 0 < b → r < p → Scales (2 * a + min 1 r over 2 * b) i j M → Scales (a * p + r over b * p) i j M
+cut a r p b l o q s =
+    ⊎-elim (λ e. same s (record { cross = exact e }) (mul-pos o (omega arith))) (λ h. sticky s l (half-way h) (inside h)) (eq-zero-or-pos r)
+  where
+    exact : r ≡ 0 → (2 * a + min 1 r) * (b * p) ≡ (a * p + r) * (2 * b)
+    exact e = ap (λ (m : ℕ). (2 * a + min 1 m) * (b * p)) e ∙ omega (arith, ap (λ (z : ℕ). z * b) e)
+
+    half-way : 0 < r → Between a b (2 * a + min 1 r over 2 * b)
+    half-way h =
+        let one : 1 ≡ min 1 r = omega arith in
+        subst (λ (m : ℕ). Between a b (2 * a + m over 2 * b)) one (record { lower = record { cross = omega arith }; upper = record { cross = omega arith } })
+
+    inside : 0 < r → Between a b (a * p + r over b * p)
+    inside h =
+        record {
+          lower = record { cross = omega (arith, mul-lt-mul-of-pos-right h o) };
+          upper = record { cross = omega (arith, mul-lt-mul-of-pos-right q o) };
+        }

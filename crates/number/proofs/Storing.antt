@@ -1,0 +1,136 @@
+-- The laws of storing. `exponentOf` and `mantissaOf` are opened here and nowhere else. Assumes nothing.
+use mathlib.Core.Path.{_≡_, refl, sym, ap₂, subst}
+use mathlib.Core.Logic.{⊎-elim}
+use Prim.Native.Nat.{ℕ, zero, suc, _+_, _-_, _*_, _/_, _^_, _≤_, _<_}
+use native.Mathlib.Nat.{
+  div-lt-iff-lt-mul,
+  eq-or-lt-of-le,
+  le-div-iff-mul-le,
+  le-mul-of-pos-right,
+  le-of-eq,
+  le-of-lt,
+  le-refl,
+  le-trans,
+  lt-of-le-of-lt,
+  lt-of-lt-of-le,
+  mul-le-mul-left,
+  mul-le-mul-right,
+  mul-lt-mul-of-pos-right,
+  pow-succ',
+}
+use native.Mathlib.Omega.{arith}
+use lib.Dec.{lit<}
+use lib.Ieee.{size}
+use lib.Ieee.Digits.{size-lt, size-reaches}
+use lib.Pow.{pow-pos, pow-mono}
+use Rattle.number.specs.Fractions.{Frac, _over_, Positive, Equal, AtMost, Below}
+use Rattle.number.specs.Storing.{unit, worth, Normal, Scales, Stores, Kept, exponentOf, mantissaOf, storedOf}
+use Rattle.number.proofs.Normals.{divisor-pos, mantissa-least, mantissa-most, floor, ceiling}
+use Rattle.number.proofs.Scaling.{denominator-pos, same, rescale, into, out-of, exponent-mono, same-exponent-mono, unique}
+
+pub unit-pos : 0 < unit
+unfolding unit
+unit-pos = lit< tt
+
+-- ---- what storing promises
+
+-- M + 1/2 is the middle of the 256th part in which x / u lies
+error : {x u M : ℕ} → Normal x u M → (255 * (2 * x) < (2 * M + 1) * u) × ((2 * M + 1) * u < 257 * (2 * x))
+error s = (omega (arith, ceiling s), omega (arith, floor s))
+
+pub kept : {F : Frac} {E M : ℕ} → Stores F E M → Kept F E M
+unfolding unit
+kept {F} {E} {M} s =
+    let near = widen (F .num) (F .den) (2 * M + 1) (2 ^ E) (2 ^ 128) (error (s .normal)) in
+    record { least = mantissa-least (s .normal); most = mantissa-most (s .normal); near = record { low = near .0; high = near .1 } }
+  where
+    widen : (n d m q B : ℕ) → (255 * (2 * (n * B)) < m * (d * q)) × (m * (d * q) < 257 * (2 * (n * B)))
+        → (255 * (n * (B * 512)) < 256 * (m * q * d)) × (256 * (m * q * d) < 257 * (n * (B * 512)))
+    widen n d m q B h = omega arith
+
+-- a factor 2^k moves only the exponent
+pub shift : {n d E M : ℕ} (k : ℕ) → Stores (n over d) E M → Stores (n * 2 ^ k over d) (E + k) M
+shift {n} {d} k s = same (into k 0 (rescale s (omega arith))) (record { cross = omega arith }) (denominator-pos s)
+
+-- a worth is stored as itself
+pub again : (E M : ℕ) → 128 ≤ M → M ≤ 255 → Stores (worth E M) E M
+unfolding unit
+again E M l h = into {n = 2 * M + 1} {d = 1} E 137 (rescale {i = 0} {j = 9} (record { normal = omega arith }) (omega arith))
+
+-- ---- the order of worths
+
+-- a larger exponent has the larger worth, whatever the mantissas
+steep : (E E′ M M′ : ℕ) → M ≤ 255 → 128 ≤ M′ → E < E′ → (2 * M + 1) * 2 ^ E < (2 * M′ + 1) * 2 ^ E′
+steep E E′ M M′ h l g = less (2 ^ E) (2 ^ E′) (pow-pos E) (le-trans (le-of-eq (sym (pow-succ' 2 E))) (pow-mono g))
+  where
+    less : (p q : ℕ) → 0 < p → 2 * p ≤ q → (2 * M + 1) * p < (2 * M′ + 1) * q
+    less p q o k = omega (arith, mul-le-mul-right p h, mul-le-mul-right q l)
+
+-- storing is monotone
+pub worth-mono : {F G : Frac} {E M E′ M′ : ℕ} → Stores F E M → Stores G E′ M′ → AtMost F G → AtMost (worth E M) (worth E′ M′)
+worth-mono {F} {G} {E} {M} {E′} {M′} s t h =
+    record {
+      cross = mul-le-mul-right unit (⊎-elim
+          (λ e. subst (λ (z : ℕ). (2 * M + 1) * 2 ^ E ≤ (2 * M′ + 1) * 2 ^ z) e (mul-le-mul-right (2 ^ E) (omega (arith, same-exponent-mono s t h e))))
+          (λ l. le-of-lt (steep E E′ M M′ (mantissa-most (s .normal)) (mantissa-least (t .normal)) l))
+          (eq-or-lt-of-le (exponent-mono s t h)));
+    }
+
+-- the numbers 256E + M go in the order of the worths
+pub code-less : (E M E′ M′ : ℕ) → M ≤ 255 → 128 ≤ M′ → M′ ≤ 255 → 256 * E + M < 256 * E′ + M′ → Below (worth E M) (worth E′ M′)
+code-less E M E′ M′ h l k g =
+    record {
+      cross = mul-lt-mul-of-pos-right (⊎-elim
+          (λ e. subst (λ (z : ℕ). (2 * M + 1) * 2 ^ E < (2 * M′ + 1) * 2 ^ z) e (mul-lt-mul-of-pos-right (omega arith) (pow-pos E)))
+          (λ d. steep E E′ M M′ h l d)
+          (eq-or-lt-of-le {n = E} {m = E′} (omega arith))) unit-pos;
+    }
+
+-- ---- `exponentOf` and `mantissaOf` store
+
+-- the digits of (N - 1) / d, for N / d above 1/2
+least : (N d E : ℕ) → 0 < d → d < 2 * N → ((j : ℕ) → j < E → 2 ^ j ≤ (N - 1) / d) → d * 2 ^ E < 2 * N
+least N d zero p a f = omega arith
+least N d (suc e) p a f = rw (pow-succ' 2 e) (twice (2 ^ e) (le-div-iff-mul-le p .0 (f e (le-refl (suc e)))))
+  where
+    twice : (q : ℕ) → q * d ≤ N - 1 → d * (2 * q) < 2 * N
+    twice q h = omega arith
+
+-- every number above 2^-129
+pub stored : (F : Frac) → 0 < F .den → Below (1 over 2 ^ 129) F → Stores F (exponentOf F) (mantissaOf F)
+unfolding exponentOf mantissaOf
+stored F p a =
+    let q = (F .num * 2 ^ 128 - 1) / F .den in
+    record {
+      normal = record {
+        above-half = least (F .num * 2 ^ 128) (F .den) (size q) p (double (2 ^ 128) (a .cross)) (size-reaches q);
+        at-most-one = upper (F .num * 2 ^ 128) (2 ^ size q) (div-lt-iff-lt-mul p .0 (size-lt q));
+        digits = refl;
+      };
+    }
+  where
+    double : (B : ℕ) → 1 * F .den < F .num * (B * 2) → F .den < 2 * (F .num * B)
+    double B h = omega arith
+
+    upper : (N b : ℕ) → N - 1 < b * F .den → N ≤ F .den * b
+    upper N b h = omega arith
+
+-- whoever stores F, or a fraction equal to it, has found these
+pub found : {F G : Frac} {E M : ℕ} → Stores F E M → Equal F G → 0 < G .den → storedOf G ≡ record { exponent = E; mantissa = M }
+found {F} {G} {E} {M} s e p =
+    let t = same s e p in
+    let u = unique (stored G p (record { cross = halve (2 ^ 128) (2 ^ E) (pow-pos E) (t .normal .above-half) })) t (record { cross = refl }) in
+    ap₂ (λ (x m : ℕ). record { exponent = x; mantissa = m }) (omega (arith, u .0)) (u .1)
+  where
+    halve : (B q : ℕ) → 0 < q → G .den * q < 2 * (G .num * B) → 1 * G .den < G .num * (B * 2)
+    halve B q o h = lt-of-le-of-lt (le-trans (le-of-eq (omega arith)) (le-mul-of-pos-right (G .den) o)) (omega arith)
+
+-- every positive number can be scaled, however small
+pub exists : (F : Frac) → Positive F → (i : ℕ) × (j : ℕ) × (M : ℕ) × Scales F i j M
+exists F p =
+    let k = size (F .den) in
+    let G = F .num * 2 ^ k over F .den * 2 ^ 0 in
+    (k + 128, 0 + exponentOf G, mantissaOf G, out-of (F .num) (F .den) k 0 (stored G (omega (arith, p .denominator)) (record { cross = large (2 ^ k) (2 ^ 129) (size-lt (F .den)) (pow-pos 129) })))
+  where
+    large : (q B : ℕ) → F .den < q → 0 < B → 1 * (F .den * 1) < F .num * q * B
+    large q B h o = omega (arith, mul-le-mul-right (q * B) (p .numerator), mul-le-mul-left q o)

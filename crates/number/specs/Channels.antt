@@ -1,0 +1,71 @@
+-- What a channel is: "black, stored as (0,0), or lit, stored as exponent E and mantissa M". Assumes nothing.
+use mathlib.Core.Bool.{Bool, cond, _&&_}
+use Prim.Native.Nat.{ℕ, _+_, _*_, _/_, _%_, _^_, _≤_}
+use lib.Dec.{leb, eqb}
+use Rattle.number.specs.Fractions.{Frac, _over_, atMost}
+use Rattle.number.specs.Storing.{unit, worth, exponentOf, mantissaOf}
+use Rattle.number.specs.declared.channel.Channel.{Channel}
+use Rattle.number.specs.declared.channel.Channel.the-variants.{Black, Lit}
+use Rattle.number.specs.declared.channel.Decoded.{Decoded}
+use Rattle.number.specs.declared.channel.Decoded.the-variants.{Holds, Refuses}
+use Rattle.refusal.specs.declared.Refusal.the-variants.{TooBright, InvalidChannel}
+
+-- "F at or below 2^-57 becomes black; F above 2^56 is refused."
+abbrev pub blackPower : ℕ
+blackPower = 57
+
+abbrev pub brightPower : ℕ
+brightPower = 56
+
+abbrev pub blackLimit : Frac
+blackLimit = 1 over 2 ^ blackPower
+
+abbrev pub brightLimit : Frac
+brightLimit = 2 ^ brightPower over 1
+
+-- the channel of F
+unfoldable pub channelOf : Frac → Decoded
+channelOf F =
+    cond (atMost F blackLimit) (Holds Black)
+    (cond (atMost F brightLimit) (Holds (Lit (exponentOf F) (mantissaOf F))) (Refuses TooBright))
+
+-- "E 72..184 with M 128..255"
+abbrev pub leastExponent : ℕ
+leastExponent = 72
+
+abbrev pub greatestExponent : ℕ
+greatestExponent = 184
+
+abbrev pub leastMantissa : ℕ
+leastMantissa = 128
+
+-- such an exponent and mantissa; a mantissa is a byte
+pub record IsLit (E M : ℕ) : Type 0 where
+  pub exponent-least : leastExponent ≤ E
+  pub exponent-most : E ≤ greatestExponent
+  pub mantissa-least : leastMantissa ≤ M
+  pub mantissa-most : M ≤ 255
+
+-- the channels that there are
+abbrev pub IsChannel : Channel → Type 0
+IsChannel Black = Unit
+IsChannel (Lit E M) = IsLit E M
+
+-- the worth of a channel, "black as 0"
+abbrev pub worthOf : Channel → Frac
+worthOf Black = 0 over unit
+worthOf (Lit E M) = worth E M
+
+-- ---- "Stored, a row of 16-bit numbers, one a channel, each 256E + M: the channels themselves, 0 for black"
+
+abbrev pub codeOf : Channel → ℕ
+codeOf Black = 0
+codeOf (Lit E M) = 256 * E + M
+
+-- refused: "neither (0,0) nor E 72..184 with M 128..255"
+unfoldable pub channelOfCode : ℕ → Decoded
+channelOfCode n =
+    cond (eqb n 0) (Holds Black)
+    (cond (leb leastExponent (n / 256) && leb (n / 256) greatestExponent && leb leastMantissa (n % 256))
+    (Holds (Lit (n / 256) (n % 256)))
+    (Refuses InvalidChannel))

@@ -1,0 +1,4 @@
+pub mod Fractions
+pub mod Storing
+pub mod Channels
+pub mod Sources

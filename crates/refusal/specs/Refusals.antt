@@ -1,0 +1,41 @@
+-- The refusal list of document 01, the only list of numbers and places. When each refusal is given stands with the check that gives it.
+-- Assumes nothing.
+use Prim.Native.Nat.{ℕ}
+use Rattle.refusal.specs.declared.Refusal.{Refusal}
+use Rattle.refusal.specs.declared.Refusal.the-variants.{
+  BadSize,
+  BadKey,
+  WrongLength,
+  SmallOutput,
+  NotANumber,
+  TooBright,
+  UnexpectedWord,
+  InvalidChannel,
+  NoSuchRow,
+}
+use Rattle.refusal.specs.declared.Outcome.{Outcome}
+
+infix 40 _at_
+abbrev pub _at_ : (number place : ℕ) → Outcome
+n at p = record { number = n; place = p }
+
+-- "A refusal returns number and place: the index of the offending element or word for 5 to 8, else 0." i is that index.
+abbrev pub outcomeOf : Refusal → (i : ℕ) → Outcome
+-- "bad size"
+outcomeOf BadSize i = 1 at 0
+-- "bad key"
+outcomeOf BadKey i = 2 at 0
+-- "wrong length"
+outcomeOf WrongLength i = 3 at 0
+-- "small tray"
+outcomeOf SmallOutput i = 4 at 0
+-- "no number"
+outcomeOf NotANumber i = 5 at i
+-- "too bright"
+outcomeOf TooBright i = 6 at i
+-- "foreign word"
+outcomeOf UnexpectedWord i = 7 at i
+-- "wild channel"
+outcomeOf InvalidChannel i = 8 at i
+-- "no such row"
+outcomeOf NoSuchRow i = 20 at 0

@@ -1,0 +1,66 @@
+// The refusal list: why a call turns its input away, with the number and the place that it reports.
+ghost use mathlib.Core.Path.{_≡_};
+ghost use Rattle.refusal.specs.Refusals.{outcomeOf};
+
+// One case for each line of the list; the list's own words stand in specs/Refusals.antt.
+pub enum Refusal {
+    BadSize,
+    BadKey,
+    WrongLength,
+    SmallOutput,
+    NotANumber,
+    TooBright,
+    UnexpectedWord,
+    InvalidChannel,
+    NoSuchRow,
+}
+
+// What a refused call tells.
+pub struct Outcome {
+    pub number: u64,
+    pub place: usize,
+}
+
+// The number and place of a refusal that was found at the element or word of this index.
+pub fn outcome_of(refusal: Refusal, index: usize) -> Outcome
+    ensures { λ r. ⌜ r ≡ outcomeOf refusal index ⌝ }
+{
+    match refusal {
+        Refusal::BadSize => Outcome {
+            number: 1,
+            place: 0,
+        },
+        Refusal::BadKey => Outcome {
+            number: 2,
+            place: 0,
+        },
+        Refusal::WrongLength => Outcome {
+            number: 3,
+            place: 0,
+        },
+        Refusal::SmallOutput => Outcome {
+            number: 4,
+            place: 0,
+        },
+        Refusal::NotANumber => Outcome {
+            number: 5,
+            place: index,
+        },
+        Refusal::TooBright => Outcome {
+            number: 6,
+            place: index,
+        },
+        Refusal::UnexpectedWord => Outcome {
+            number: 7,
+            place: index,
+        },
+        Refusal::InvalidChannel => Outcome {
+            number: 8,
+            place: index,
+        },
+        Refusal::NoSuchRow => Outcome {
+            number: 20,
+            place: 0,
+        },
+    }
+}
