@@ -8,11 +8,13 @@ use native.Mathlib.Nat.{
   le-div-iff-mul-le,
   le-of-lt,
   le-of-mul-le-mul-right,
+  le-refl,
   lt-of-le-of-lt,
   lt-of-lt-of-le,
   lt-of-mul-lt-mul-left,
   lt-of-mul-lt-mul-right,
   mul-comm,
+  mul-div-cancel,
   mul-div-mul-right,
   mul-le-mul-left,
   mul-le-mul-right,
@@ -52,6 +54,10 @@ cell {x} {u} {M} low most floor ceiling =
       digits = omega (arith, le-div-iff-mul-le positive .1 floor, div-lt-iff-lt-mul positive .1 ceiling);
     }
 
+-- 1 itself, what a power of two is scaled to
+pub one : {x : ℕ} → 0 < x → Normal x x 255
+one {x} p = record { above-half = omega arith; at-most-one = le-refl x; digits = omega (arith, mul-div-cancel 256 p) }
+
 -- the mantissa goes by the ratio alone
 pub ratio : {x u M x′ u′ : ℕ} → Normal x u M → x * u′ ≡ x′ * u → 0 < u′ → Normal x′ u′ M
 ratio {x} {u} {M} {x′} {u′} s e p =
@@ -69,5 +75,5 @@ mantissa-mono {x} {u} {M} {x′} {u′} s t h =
       mantissa-most s,
       t .digits,
       le-div-iff-mul-le {x = M} {y = 256 * x′} (divisor-pos t) .1
-      (le-of-mul-le-mul-right {k = u} (omega (arith, mul-le-mul-right u′ (floor s))) (divisor-pos s)),
+          (le-of-mul-le-mul-right {k = u} (omega (arith, mul-le-mul-right u′ (floor s))) (divisor-pos s)),
     )

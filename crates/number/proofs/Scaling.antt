@@ -63,6 +63,10 @@ module _ {F : Frac} {i j M : ℕ} (s : Scales F i j M) where
 pub into : {n d i j M : ℕ} (a b : ℕ) → Scales (n over d) (a + i) (b + j) M → Scales (n * 2 ^ a over d * 2 ^ b) i j M
 into {n} {d} {i} {j} a b s = transfer s (ap₂ _*_ (pow-split n a i) (sym (pow-split d b j))) (mul-pos (denominator-pos s) (pow-pos b))
 
+-- of a whole number
+pub whole-into : {m i j M : ℕ} (a b : ℕ) → Scales (m over 1) (a + i) (b + j) M → Scales (m * 2 ^ a over 2 ^ b) i j M
+whole-into a b s = same (into a b s) (record { cross = omega arith }) (pow-pos b)
+
 -- and out of them
 pub out-of : (n d a b : ℕ) {i j M : ℕ} → Scales (n * 2 ^ a over d * 2 ^ b) i j M → Scales (n over d) (a + i) (b + j) M
 out-of n d a b {i} {j} s = transfer s (ap₂ _*_ (sym (pow-split n a i)) (pow-split d b j)) (left-pos d (2 ^ b) (denominator-pos s))

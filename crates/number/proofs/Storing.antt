@@ -1,5 +1,5 @@
 -- The laws of storing. `exponentOf` and `mantissaOf` are opened here and nowhere else. Assumes nothing.
-use mathlib.Core.Path.{_≡_, refl, sym, ap₂, subst}
+use mathlib.Core.Path.{_≡_, refl, sym, ap, ap₂, _∙_, subst}
 use mathlib.Core.Logic.{⊎-elim}
 use Prim.Native.Nat.{ℕ, zero, suc, _+_, _-_, _*_, _/_, _^_, _≤_, _<_}
 use native.Mathlib.Nat.{
@@ -19,14 +19,30 @@ use native.Mathlib.Nat.{
   pow-succ',
 }
 use native.Mathlib.Omega.{arith}
+use borrow.Author.Tests.{le-leb, lt-leb}
 use lib.Dec.{lit<}
 use lib.Ieee.{size}
 use lib.Ieee.Digits.{size-lt, size-reaches}
 use lib.Pow.{pow-pos, pow-mono}
 use Rattle.number.specs.Fractions.{Frac, _over_, Positive, Equal, AtMost, Below}
-use Rattle.number.specs.Storing.{unit, worth, Normal, Scales, Stores, Kept, exponentOf, mantissaOf, storedOf}
+use Rattle.number.specs.Storing.{unit, worth, Normal, Scales, Stores, Kept, exponentOf, mantissaOf, storedOf, ratioOf}
+use Rattle.number.specs.declared.ratio.Stored.{Stored}
+use Rattle.number.specs.declared.ratio.StoredRatio.the-variants.{InRange, OutOfRange}
 use Rattle.number.proofs.Normals.{divisor-pos, mantissa-least, mantissa-most, floor, ceiling}
-use Rattle.number.proofs.Scaling.{denominator-pos, same, rescale, into, out-of, exponent-mono, same-exponent-mono, unique}
+use Rattle.number.proofs.Scaling.{
+  denominator-pos,
+  same,
+  rescale,
+  into,
+  out-of,
+  at-most-down,
+  above-down,
+  at-most-up,
+  above-up,
+  exponent-mono,
+  same-exponent-mono,
+  unique,
+}
 
 pub unit-pos : 0 < unit
 unfolding unit
@@ -134,3 +150,25 @@ exists F p =
   where
     large : (q B : ℕ) → F .den < q → 0 < B → 1 * (F .den * 1) < F .num * q * B
     large q B h o = omega (arith, mul-le-mul-right (q * B) (p .numerator), mul-le-mul-left q o)
+
+-- ---- storing where the exponent fits eight bits
+
+pub too-small : (F : Frac) → AtMost F (1 over 2 ^ 129) → ratioOf F ≡ OutOfRange
+unfolding ratioOf
+too-small F h = simp (le-leb _ _ (h .cross))
+
+pub too-large : (F : Frac) → Below (1 over 2 ^ 129) F → Below (2 ^ 127 over 1) F → ratioOf F ≡ OutOfRange
+unfolding ratioOf
+too-large F a h = simp (lt-leb _ _ (a .cross), lt-leb _ _ (h .cross))
+
+pub fits : (F : Frac) → Below (1 over 2 ^ 129) F → AtMost F (2 ^ 127 over 1) → ratioOf F ≡ InRange (storedOf F)
+unfolding ratioOf
+fits F a b = simp (lt-leb _ _ (a .cross), le-leb _ _ (b .cross))
+
+-- by the exponent
+module _ {F : Frac} {E M : ℕ} (s : Stores F E M) where
+  pub fits-at : E ≤ 255 → ratioOf F ≡ InRange (record { exponent = E; mantissa = M })
+  fits-at h = fits F (above-down s 129 (omega arith)) (at-most-up s 127 h) ∙ ap InRange (found s (record { cross = refl }) (denominator-pos s))
+
+  pub too-large-at : 255 < E → ratioOf F ≡ OutOfRange
+  too-large-at h = too-large F (above-down s 129 (omega arith)) (above-up s 127 h)

@@ -23,7 +23,9 @@ pub enum Decoded {
 
 // The exponents of lit channels, and their least mantissa.
 pub const LEAST_EXPONENT: u64 = 72;
+
 pub const GREATEST_EXPONENT: u64 = 184;
+
 const LEAST_MANTISSA: u64 = 128;
 
 // The channel of a 16-bit number 256E + M, 0 for black.

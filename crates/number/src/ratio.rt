@@ -1,8 +1,8 @@
 // A ratio of two whole numbers, stored.
 ghost use mathlib.Core.Path.{_≡_};
-ghost use Prim.Native.Nat.{_+_, _*_, _/_, _^_, _≤_, _<_};
+ghost use Prim.Native.Nat.{_+_, _*_, _^_, _≤_, _<_};
 ghost use Rattle.number.specs.Fractions.{_over_};
-ghost use Rattle.number.specs.Storing.{unit, Scales, ratioOf};
+ghost use Rattle.number.specs.Storing.{unit, Normal, Scales, ratioOf};
 
 // A stored number: exponent E and mantissa M, worth (M + 1/2) * 2^(E - 136).
 pub struct Stored {
@@ -18,25 +18,25 @@ pub enum StoredRatio {
 
 // The shifts that bring a ratio above 1/2 and at most to 1: times 2^up, by 2^down. Its mantissa.
 struct Scaled {
-    up: u64,
-    down: u64,
+    up: u8,
+    down: u8,
     mantissa: u8,
 }
 
 // A number shifted left until its top bit is bit 63.
 struct Aligned {
     value: u64,
-    shift: u64,
+    shift: u8,
 }
 
 fn align(v: u64) -> Aligned
     requires { ⌜ 0 < v ⌝ }
     ensures { λ r. ⌜ (r .value ≡ v * 2 ^ r .shift) × (2 ^ 63 ≤ r .value) × (r .shift ≤ 63) ⌝ }
 {
-    let s = u64::leading_zeros(v) as u64;
+    let shift = u64::leading_zeros(v);
     Aligned {
-        value: v << s,
-        shift: s,
+        value: v << shift,
+        shift: shift as u8,
     }
 }
 
@@ -48,7 +48,7 @@ struct Quotient {
 
 // One digit more. No sum goes beyond the divisor.
 fn next_digit(q: Quotient, den: u64) -> Quotient
-    requires { ⌜ (q .rest < den) × (q .digits < 64) ⌝ }
+    requires { ⌜ (q .rest < den) × (q .digits < 128) ⌝ }
     ensures { λ r. ⌜ (r .digits * den + r .rest ≡ 2 * (q .digits * den + q .rest)) × (r .rest < den) × (r .digits ≤ 2 * q .digits + 1) ⌝ }
 {
     let gap = den - q.rest;
@@ -65,13 +65,13 @@ fn next_digit(q: Quotient, den: u64) -> Quotient
     }
 }
 
-// Seven binary digits of rest / den.
-fn seven_digits(rest: u64, den: u64) -> u64
-    requires { ⌜ rest < den ⌝ }
-    ensures { λ r. ⌜ r ≡ 128 * rest / den ⌝ }
+// The mantissa of (den + rest) / (2 * den): a leading 1, and seven digits of rest / den.
+fn mantissa(rest: u64, den: u64) -> u8
+    requires { ⌜ (0 < rest) × (rest < den) ⌝ }
+    ensures { λ r. ⌜ Normal (den + rest) (2 * den) r ⌝ }
 {
     let mut q = Quotient {
-        digits: 0,
+        digits: 1,
         rest: rest,
     };
     let mut i: u64 = 0;
@@ -79,5 +79,60 @@ fn seven_digits(rest: u64, den: u64) -> u64
         q = next_digit(q, den);
         i += 1;
     }
-    q.digits
+    q.digits as u8
+}
+
+// num / den, scaled to above 1/2 and at most 1.
+fn scale(num: u64, den: u64) -> Scaled
+    requires { ⌜ (0 < num) × (0 < den) ⌝ }
+    ensures { λ r. ⌜ Scales (num over den) (r .up) (r .down) (r .mantissa) ⌝ }
+{
+    let n = align(num);
+    let d = align(den);
+    let top = n.value;
+    let bottom = d.value;
+    if top == bottom {
+        return Scaled {
+            up: n.shift,
+            down: d.shift,
+            mantissa: 255,
+        };
+    }
+    if top < bottom {
+        return Scaled {
+            up: n.shift,
+            down: d.shift,
+            mantissa: mantissa(top - (bottom - top), bottom),
+        };
+    }
+    Scaled {
+        up: n.shift,
+        down: d.shift + 1,
+        mantissa: mantissa(top - bottom, bottom),
+    }
+}
+
+// num / den * 2^exp in units of 2^-137, stored.
+pub fn store_ratio(num: u64, den: u64, exp: u16) -> StoredRatio
+    ensures { λ r. ⌜ r ≡ ratioOf (num * 2 ^ exp over den * unit) ⌝ }
+{
+    if num == 0 {
+        return StoredRatio::OutOfRange;
+    }
+    if den == 0 {
+        return StoredRatio::OutOfRange;
+    }
+    let s = scale(num, den);
+    let high = exp as u64 + s.down as u64;
+    let low = s.up as u64 + 9;
+    if high < low {
+        return StoredRatio::OutOfRange;
+    }
+    if 255 < high - low {
+        return StoredRatio::OutOfRange;
+    }
+    StoredRatio::InRange(Stored {
+        exponent: (high - low) as u8,
+        mantissa: s.mantissa,
+    })
 }

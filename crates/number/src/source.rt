@@ -1,1 +1,71 @@
-// x
+// The numbers of a source picture as channels: IEEE halves and singles, and RGBE bytes. Any bits are taken.
+ghost use mathlib.Core.Path.{_≡_};
+ghost use Prim.Native.Nat.{_+_, _^_, _≤_, _<_};
+ghost use Rattle.number.specs.Sources.{channelOfValue, fieldValue, halfValue, singleValue, rgbeValue};
+use crate::channel::Channel;
+use crate::channel::Decoded;
+use crate::whole::whole_to_channel;
+use refusal::Refusal;
+
+// An IEEE number by its sign, exponent and fraction. Its format is given by the leading digit, the exponent of ones alone, and the
+// subnormal step 2^-low.
+fn float_to_channel(
+    hidden: u32,
+    ones: u16,
+    low: u16,
+    sign: u32,
+    exponent: u16,
+    fraction: u32,
+) -> Decoded
+    requires { ⌜ (hidden + fraction < 2 ^ 32) ⌝ }
+    ensures { λ r. ⌜ r ≡ channelOfValue (fieldValue hidden ones low sign exponent fraction) ⌝ }
+{
+    if exponent == ones {
+        return Decoded::Refuses(Refusal::NotANumber);
+    }
+    if sign != 0 {
+        return Decoded::Holds(Channel::Black);
+    }
+    if exponent == 0 {
+        return whole_to_channel(fraction, 0, low);
+    }
+    whole_to_channel(hidden + fraction, exponent - 1, low)
+}
+
+// A half: 1, 5 and 10 bits.
+pub fn half_to_channel(bits: u16) -> Decoded
+    ensures { λ r. ⌜ r ≡ channelOfValue (halfValue bits) ⌝ }
+{
+    float_to_channel(
+        1024,
+        31,
+        24,
+        (bits >> 15) as u32,
+        (bits >> 10) % 32,
+        (bits % 1024) as u32,
+    )
+}
+
+// A single: 1, 8 and 23 bits.
+pub fn single_to_channel(bits: u32) -> Decoded
+    ensures { λ r. ⌜ r ≡ channelOfValue (singleValue bits) ⌝ }
+{
+    float_to_channel(
+        8388608,
+        255,
+        149,
+        bits >> 31,
+        ((bits >> 23) % 256) as u16,
+        bits % 8388608,
+    )
+}
+
+// A byte of an RGBE pixel beside the pixel's exponent byte.
+pub fn rgbe_to_channel(byte: u8, exponent: u8) -> Decoded
+    ensures { λ r. ⌜ r ≡ channelOfValue (rgbeValue byte exponent) ⌝ }
+{
+    if exponent == 0 {
+        return Decoded::Holds(Channel::Black);
+    }
+    whole_to_channel(2 * (byte as u32) + 1, exponent as u16, 137)
+}
