@@ -1,24 +1,24 @@
 -- Laws of channels: what a number becomes, and the 16-bit form. Assumes nothing.
-use mathlib.Core.Path.{_≡_, refl, sym, ap, _∙_, subst, subst₂}
+use mathlib.Core.Path.{_≡_, refl, sym, ap, subst, subst₂}
 use mathlib.Core.Logic.{_↔_, ⊎-elim}
-use Prim.Native.Nat.{ℕ, _+_, _-_, _*_, _/_, _%_, _^_, _≤_, _<_}
+use Prim.Native.Nat.{ℕ, _+_, _-_, _*_, _/_, _%_, _≤_, _<_}
 use native.Mathlib.Nat.{eq-or-lt-of-le, lt-irrefl, lt-of-not-le, lt-trans, mul-pos}
 use native.Mathlib.Decide.{decLe}
 use native.Mathlib.Omega.{arith}
 use mathlib.Core.Bool.{Bool, true, false, cond, _&&_}
-use lib.Dec.{leb, eqb}
-use borrow.Author.Tests.{le-leb, lt-leb, eq-eqb, ne-eqb, leb-true, eqb-true}
+use lib.Dec.{leb, eqb, lit≤}
+use borrow.Author.Tests.{le-leb, lt-leb, ne-eqb, leb-true, eqb-true}
 use lib.Pow.{pow-pos}
-use Rattle.number.specs.Fractions.{Frac, _over_, Equal, AtMost, Below}
-use Rattle.number.specs.Storing.{Scales, Stores, unit, worth, storedOf}
+use Rattle.number.specs.Fractions.{Frac, AtMost, Below}
+use Rattle.number.specs.Storing.{Scales, Stores, worth, exponentOf, mantissaOf}
 use Rattle.number.specs.Channels.{blackPower, brightPower, blackLimit, brightLimit, channelOf, leastExponent, greatestExponent, leastMantissa, IsLit, IsChannel, worthOf, codeOf, channelOfCode}
 use Rattle.number.specs.declared.channel.Channel.{Channel}
 use Rattle.number.specs.declared.channel.Channel.the-variants.{Black, Lit}
 use Rattle.number.specs.declared.channel.Decoded.the-variants.{Holds, Refuses}
 use Rattle.number.specs.declared.ratio.Stored.{Stored}
 use Rattle.refusal.specs.declared.Refusal.the-variants.{TooBright, InvalidChannel}
-use Rattle.number.proofs.Scaling.{denominator-pos, rescale, at-most-down, above-down, at-most-up, above-up}
-use Rattle.number.proofs.Storing.{unit-pos, found, stored, kept, code-less}
+use Rattle.number.proofs.Scaling.{denominator-pos, rescale, at-most-down, above-down, at-most-up, above-up, exponent-above-down, exponent-at-most-up}
+use Rattle.number.proofs.Storing.{unit-pos, found, stored, promised, code-less}
 
 -- ---- the three outcomes
 
@@ -47,6 +47,32 @@ module _ {F : Frac} {i j M : ℕ} (s : Scales F i j M) where
 
   pub lit-at : i + leastExponent ≤ j + 128 → j + 128 ≤ i + greatestExponent → channelOf F ≡ Holds (Lit (j + 128 - i) M)
   lit-at l h = lit (rescale s (omega arith)) (above-down s blackPower (omega arith)) (at-most-up s brightPower (omega arith))
+
+-- "So lit channels have E 72 to 184."
+pub lit-valid : {F : Frac} {E M : ℕ} → Stores F E M → Below blackLimit F → AtMost F brightLimit → IsLit E M
+lit-valid s a b =
+    let p = promised s in
+    record {
+      exponent-least = omega (arith, exponent-above-down s blackPower a);
+      exponent-most = exponent-at-most-up s brightPower b;
+      mantissa-least = p .least;
+      mantissa-most = p .most;
+    }
+
+-- every channel that a number becomes is one
+pub channel-valid : (F : Frac) → 0 < F .den → (c : Channel) → channelOf F ≡ Holds c → IsChannel c
+channel-valid F p c h = go (decLe (F .num * blackLimit .den) (blackLimit .num * F .den)) (decLe (F .num * brightLimit .den) (brightLimit .num * F .den))
+  where
+    go : Dec (F .num * blackLimit .den ≤ blackLimit .num * F .den) → Dec (F .num * brightLimit .den ≤ brightLimit .num * F .den) → IsChannel c
+    go (yes a) b = let e : Black ≡ c = cc (black F (record { cross = a })) in subst IsChannel e tt
+    go (no a) (yes b) =
+        let low : Below blackLimit F = record { cross = lt-of-not-le a } in
+        let high : AtMost F brightLimit = record { cross = b } in
+        let s = stored F blackPower (lit≤ tt) p low in
+        let e : Lit (exponentOf F) (mantissaOf F) ≡ c = cc (lit s low high) in
+        subst IsChannel e (lit-valid s low high)
+    go (no a) (no b) =
+        let z : _≡_ {A = ℕ} 0 1 = cc (bright F (record { cross = lt-of-not-le a }) (record { cross = lt-of-not-le b })) in absurd (omega arith)
 
 -- ---- the 16-bit form and the channel determine each other
 

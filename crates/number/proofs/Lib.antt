@@ -1,3 +1,4 @@
+pub mod Laws
 pub mod Normals
 pub mod Scaling
 pub mod Shifts

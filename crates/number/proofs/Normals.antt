@@ -9,7 +9,6 @@ use native.Mathlib.Nat.{
   le-of-lt,
   le-of-mul-le-mul-right,
   le-refl,
-  lt-of-le-of-lt,
   lt-of-lt-of-le,
   lt-of-mul-lt-mul-left,
   lt-of-mul-lt-mul-right,

@@ -1,20 +1,12 @@
 -- Facts about F scaled by 2^i / 2^j to above 1/2 and at most 1. Assumes nothing.
 use mathlib.Core.Path.{_≡_, sym, ap, ap₂, _∙_, subst}
-use mathlib.Core.Logic.{⊎-elim}
-use Prim.Native.Nat.{ℕ, zero, suc, _+_, _-_, _*_, _/_, _^_, _≤_, _<_, min}
+use Prim.Native.Nat.{ℕ, zero, suc, _+_, _-_, _*_, _^_, _≤_, _<_}
 use native.Mathlib.Nat.{
-  add-sub-of-le,
-  eq-or-lt-of-le,
   le-antisymm,
   le-mul-of-pos-right,
   le-of-eq,
-  le-of-lt,
   le-of-suc-le-suc,
   le-trans,
-  lt-of-le-of-lt,
-  lt-of-lt-of-le,
-  lt-of-mul-lt-mul-left,
-  lt-of-mul-lt-mul-right,
   lt-of-not-le,
   mul-assoc,
   mul-le-mul-left,
@@ -22,13 +14,14 @@ use native.Mathlib.Nat.{
   mul-lt-mul-of-pos-right,
   mul-mul-mul-comm,
   mul-pos,
+  not-le-of-lt,
   pow-succ',
 }
 use native.Mathlib.Omega.{arith}
 use lib.Pow.{pow-pos, pow-mono, pow-add}
 use Rattle.number.specs.Fractions.{Frac, _over_, Equal, AtMost, Below}
-use Rattle.number.specs.Storing.{Normal, Scales, worth}
-use Rattle.number.proofs.Normals.{divisor-pos, mantissa-least, mantissa-most, floor, ceiling, cell, ratio, mantissa-mono}
+use Rattle.number.specs.Storing.{Scales}
+use Rattle.number.proofs.Normals.{divisor-pos, ratio, mantissa-mono}
 
 -- a factor of a positive product; `omega` takes the other as an unknown
 left-pos : (a b : ℕ) → 0 < a * b → 0 < a
@@ -71,7 +64,10 @@ whole-into a b s = same (into a b s) (record { cross = omega arith }) (pow-pos b
 pub out-of : (n d a b : ℕ) {i j M : ℕ} → Scales (n * 2 ^ a over d * 2 ^ b) i j M → Scales (n over d) (a + i) (b + j) M
 out-of n d a b {i} {j} s = transfer s (ap₂ _*_ (sym (pow-split n a i)) (pow-split d b j)) (left-pos d (2 ^ b) (denominator-pos s))
 
--- ---- F against a power of two
+-- ---- F against a power of two: the thresholds of the exponent
+
+apart : {F G : Frac} → AtMost F G → Below G F → ⊥
+apart a b = not-le-of-lt (b .cross) (a .cross)
 
 module _ {F : Frac} {i j M : ℕ} (s : Scales F i j M) (k : ℕ) where
   pub at-most-down : j + k ≤ i → AtMost F (1 over 2 ^ k)
@@ -103,6 +99,13 @@ module _ {F : Frac} {i j M : ℕ} (s : Scales F i j M) (k : ℕ) where
           ap (λ (z : ℕ). F .den * z) (pow-succ' 2 k),
         );
       }
+
+  -- and back
+  pub exponent-above-down : Below (1 over 2 ^ k) F → i < j + k
+  exponent-above-down h = lt-of-not-le (λ g. apart (at-most-down g) h)
+
+  pub exponent-at-most-up : AtMost F (2 ^ k over 1) → j ≤ i + k
+  exponent-at-most-up h = le-of-suc-le-suc (lt-of-not-le (λ g. apart h (above-up g)))
 
 -- ---- two numbers
 

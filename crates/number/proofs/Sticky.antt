@@ -16,7 +16,7 @@ use native.Mathlib.Nat.{
 }
 use native.Mathlib.Omega.{arith}
 use lib.Pow.{pow-pos, pow-add}
-use Rattle.number.specs.Fractions.{Frac, _over_, Equal, Below}
+use Rattle.number.specs.Fractions.{Frac, _over_, Below}
 use Rattle.number.specs.Storing.{Normal, Scales}
 use Rattle.number.proofs.Normals.{mantissa-most, floor, ceiling, cell}
 use Rattle.number.proofs.Scaling.{same, at-most-up}

@@ -13,6 +13,7 @@ use native.Mathlib.Nat.{
   le-trans,
   lt-of-le-of-lt,
   lt-of-lt-of-le,
+  mul-le-mul,
   mul-le-mul-left,
   mul-le-mul-right,
   mul-lt-mul-of-pos-right,
@@ -20,22 +21,20 @@ use native.Mathlib.Nat.{
 }
 use native.Mathlib.Omega.{arith}
 use borrow.Author.Tests.{le-leb, lt-leb}
-use lib.Dec.{lit<}
+use lib.Dec.{T, leb, ltb, leb→le, ltb→lt, lit<}
 use lib.Ieee.{size}
 use lib.Ieee.Digits.{size-lt, size-reaches}
 use lib.Pow.{pow-pos, pow-mono}
 use Rattle.number.specs.Fractions.{Frac, _over_, Positive, Equal, AtMost, Below}
-use Rattle.number.specs.Storing.{unit, worth, Normal, Scales, Stores, Kept, exponentOf, mantissaOf, storedOf, ratioOf}
-use Rattle.number.specs.declared.ratio.Stored.{Stored}
+use Rattle.number.specs.Storing.{unit, worth, Normal, Scales, Stores, Promised, exponentOf, mantissaOf, storedOf, ratioOf}
 use Rattle.number.specs.declared.ratio.StoredRatio.the-variants.{InRange, OutOfRange}
-use Rattle.number.proofs.Normals.{divisor-pos, mantissa-least, mantissa-most, floor, ceiling}
+use Rattle.number.proofs.Normals.{mantissa-least, mantissa-most, floor, ceiling}
 use Rattle.number.proofs.Scaling.{
   denominator-pos,
   same,
   rescale,
   into,
   out-of,
-  at-most-down,
   above-down,
   at-most-up,
   above-up,
@@ -54,9 +53,9 @@ unit-pos = lit< tt
 error : {x u M : ℕ} → Normal x u M → (255 * (2 * x) < (2 * M + 1) * u) × ((2 * M + 1) * u < 257 * (2 * x))
 error s = (omega (arith, ceiling s), omega (arith, floor s))
 
-pub kept : {F : Frac} {E M : ℕ} → Stores F E M → Kept F E M
+pub promised : {F : Frac} {E M : ℕ} → Stores F E M → Promised F E M
 unfolding unit
-kept {F} {E} {M} s =
+promised {F} {E} {M} s =
     let near = widen (F .num) (F .den) (2 * M + 1) (2 ^ E) (2 ^ 128) (error (s .normal)) in
     record { least = mantissa-least (s .normal); most = mantissa-most (s .normal); near = record { low = near .0; high = near .1 } }
   where
@@ -112,14 +111,14 @@ least N d (suc e) p a f = rw (pow-succ' 2 e) (twice (2 ^ e) (le-div-iff-mul-le p
     twice : (q : ℕ) → q * d ≤ N - 1 → d * (2 * q) < 2 * N
     twice q h = omega arith
 
--- every number above 2^-129
-pub stored : (F : Frac) → 0 < F .den → Below (1 over 2 ^ 129) F → Stores F (exponentOf F) (mantissaOf F)
+-- every number above 2^-129, so above 2^-k for a smaller k
+pub stored : (F : Frac) (k : ℕ) → k ≤ 129 → 0 < F .den → Below (1 over 2 ^ k) F → Stores F (exponentOf F) (mantissaOf F)
 unfolding exponentOf mantissaOf
-stored F p a =
+stored F k l p a =
     let q = (F .num * 2 ^ 128 - 1) / F .den in
     record {
       normal = record {
-        above-half = least (F .num * 2 ^ 128) (F .den) (size q) p (double (2 ^ 128) (a .cross)) (size-reaches q);
+        above-half = least (F .num * 2 ^ 128) (F .den) (size q) p (double (2 ^ 128) (lt-of-lt-of-le (a .cross) (mul-le-mul-left (F .num) (pow-mono l)))) (size-reaches q);
         at-most-one = upper (F .num * 2 ^ 128) (2 ^ size q) (div-lt-iff-lt-mul p .0 (size-lt q));
         digits = refl;
       };
@@ -135,7 +134,7 @@ stored F p a =
 pub found : {F G : Frac} {E M : ℕ} → Stores F E M → Equal F G → 0 < G .den → storedOf G ≡ record { exponent = E; mantissa = M }
 found {F} {G} {E} {M} s e p =
     let t = same s e p in
-    let u = unique (stored G p (record { cross = halve (2 ^ 128) (2 ^ E) (pow-pos E) (t .normal .above-half) })) t (record { cross = refl }) in
+    let u = unique (stored G 129 (le-refl 129) p (record { cross = halve (2 ^ 128) (2 ^ E) (pow-pos E) (t .normal .above-half) })) t (record { cross = refl }) in
     ap₂ (λ (x m : ℕ). record { exponent = x; mantissa = m }) (omega (arith, u .0)) (u .1)
   where
     halve : (B q : ℕ) → 0 < q → G .den * q < 2 * (G .num * B) → 1 * G .den < G .num * (B * 2)
@@ -146,7 +145,7 @@ pub exists : (F : Frac) → Positive F → (i : ℕ) × (j : ℕ) × (M : ℕ) �
 exists F p =
     let k = size (F .den) in
     let G = F .num * 2 ^ k over F .den * 2 ^ 0 in
-    (k + 128, 0 + exponentOf G, mantissaOf G, out-of (F .num) (F .den) k 0 (stored G (omega (arith, p .denominator)) (record { cross = large (2 ^ k) (2 ^ 129) (size-lt (F .den)) (pow-pos 129) })))
+    (k + 128, 0 + exponentOf G, mantissaOf G, out-of (F .num) (F .den) k 0 (stored G 129 (le-refl 129) (omega (arith, p .denominator)) (record { cross = large (2 ^ k) (2 ^ 129) (size-lt (F .den)) (pow-pos 129) })))
   where
     large : (q B : ℕ) → F .den < q → 0 < B → 1 * (F .den * 1) < F .num * q * B
     large q B h o = omega (arith, mul-le-mul-right (q * B) (p .numerator), mul-le-mul-left q o)
@@ -172,3 +171,19 @@ module _ {F : Frac} {E M : ℕ} (s : Stores F E M) where
 
   pub too-large-at : 255 < E → ratioOf F ≡ OutOfRange
   too-large-at h = too-large F (above-down s 129 (omega arith)) (above-up s 127 h)
+
+-- num / den · 2^exp in units, by bounds on the three; the two tests are on closed numbers and compute
+pub fits-between : {num den exp : ℕ} (n n′ d d′ e e′ : ℕ) → (n ≤ num) × (num ≤ n′) → (d ≤ den) × (den ≤ d′) → (e ≤ exp) × (exp ≤ e′)
+    → T (ltb (1 * (d′ * 2 ^ 137)) (n * 2 ^ e * 2 ^ 129)) → T (leb (n′ * 2 ^ e′ * 1) (2 ^ 127 * (d * 2 ^ 137)))
+    → ratioOf (num * 2 ^ exp over den * unit) ≡ InRange (storedOf (num * 2 ^ exp over den * unit))
+unfolding unit
+fits-between n n′ d d′ e e′ hn hd he lo hi =
+    fits _
+    (record {
+      cross = lt-of-le-of-lt (mul-le-mul-left 1 (mul-le-mul-right (2 ^ 137) (hd .1)))
+          (lt-of-lt-of-le (ltb→lt _ _ lo) (mul-le-mul-right (2 ^ 129) (mul-le-mul (hn .0) (pow-mono (he .0)))));
+    })
+    (record {
+      cross = le-trans (mul-le-mul-right 1 (mul-le-mul (hn .1) (pow-mono (he .1))))
+          (le-trans (leb→le _ _ hi) (mul-le-mul-left (2 ^ 127) (mul-le-mul-right (2 ^ 137) (hd .0))));
+    })

@@ -32,7 +32,7 @@ abbrev pub Stores : (F : Frac) (E M : ℕ) → Type 0
 Stores F E M = Scales F 128 E M
 
 -- "So M is 128 to 255, and the stored worth differs from F by less than F/256."
-pub record Kept (F : Frac) (E M : ℕ) : Type 0 where
+pub record Promised (F : Frac) (E M : ℕ) : Type 0 where
   pub least : 128 ≤ M
   pub most : M ≤ 255
   pub near : Near F (worth E M)

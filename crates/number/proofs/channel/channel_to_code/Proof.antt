@@ -1,5 +1,4 @@
 -- `number::channel::channel_to_code` meets its contract. Assumes nothing.
-use mathlib.Core.Path.{refl}
 use borrow.Author.Needs.{needs}
 use Rattle.number.proofs.channel.channel_to_code.Statement.{statement}
 use Rattle.number.proofs.channel.channel_to_code.Tie as tie

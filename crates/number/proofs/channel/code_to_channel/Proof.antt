@@ -1,8 +1,7 @@
 -- `number::channel::code_to_channel` meets its contract. Assumes nothing.
-use native.Mathlib.Omega.{arith}
 use borrow.Author.Needs.{needs}
 use borrow.Author.Tests.{eq-eqb, ne-eqb, le-leb, lt-leb}
-use Rattle.number.specs.Channels.{channelOfCode, leastExponent, greatestExponent, leastMantissa}
+use Rattle.number.specs.Channels.{channelOfCode}
 use Rattle.number.proofs.channel.code_to_channel.Statement.{statement}
 use Rattle.number.proofs.channel.code_to_channel.Tie as tie
 

@@ -1,6 +1,5 @@
 -- `number::ratio::align` meets its contract. Assumes nothing.
 use mathlib.Core.Path.{refl}
-use Prim.Native.Nat.{_*_, _^_}
 use native.Mathlib.Nat.{mod-eq-of-lt}
 use native.Mathlib.Omega.{arith}
 use Rattle.number.proofs.Shifts.{TopBit, aligned}

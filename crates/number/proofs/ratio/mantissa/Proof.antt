@@ -1,7 +1,6 @@
 -- `number::ratio::mantissa` meets its contract: with i digits taken, digits * den + rest is 2^i times the number. Assumes nothing.
 use mathlib.Core.Path.{_≡_, subst}
 use Prim.Native.Nat.{ℕ, _+_, _-_, _*_, _^_, _≤_, _<_}
-use native.Mathlib.Nat.{mul-le-mul-right}
 use native.Mathlib.Omega.{arith}
 use borrow.Author.Needs.{needs}
 use lib.Pow.{pow-add, pow-mono}

@@ -9,7 +9,7 @@ use Rattle.number.specs.Fractions.{Frac, _over_}
 use Rattle.number.specs.Storing.{unit, Scales, Stores, ratioOf}
 use Rattle.number.specs.declared.ratio.StoredRatio.the-variants.{OutOfRange}
 use Rattle.number.proofs.Scaling.{rescale, into, at-most-down}
-use Rattle.number.proofs.Storing.{unit-pos, too-small, too-large, fits-at, too-large-at}
+use Rattle.number.proofs.Storing.{too-small, too-large, fits-at, too-large-at}
 use Rattle.number.proofs.ratio.store_ratio.Statement.{statement}
 use Rattle.number.proofs.ratio.store_ratio.Tie as tie
 

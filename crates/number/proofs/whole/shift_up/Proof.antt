@@ -1,5 +1,5 @@
 -- `number::whole::shift_up` meets its contract. Assumes nothing.
-use mathlib.Core.Path.{_≡_, sym, _∙_}
+use mathlib.Core.Path.{_≡_}
 use Prim.Native.Nat.{ℕ, _-_, _*_, _/_, _%_, _^_, min}
 use native.Mathlib.Nat.{lt-of-le-of-lt, mod-eq-of-lt, mul-div-mul-left}
 use native.Mathlib.Omega.{arith}
