@@ -1,0 +1,5 @@
+.PHONY: test
+
+# Every test and every proof, from nothing.
+test:
+	.ci/run
