@@ -1,55 +1,50 @@
 -- Laws of channels: what a number becomes, and the 16-bit form. Assumes nothing.
-use mathlib.Core.Path.{_≡_, refl, sym, ap, subst, subst₂}
-use mathlib.Core.Logic.{_↔_, ⊎-elim}
-use Prim.Native.Nat.{ℕ, _+_, _-_, _*_, _/_, _%_, _≤_, _<_}
-use native.Mathlib.Nat.{eq-or-lt-of-le, lt-irrefl, lt-of-not-le, lt-trans, mul-pos}
+use mathlib.Core.Path.{_≡_, refl, sym, ap, _∙_, subst}
+use mathlib.Core.Logic.{_↔_}
+use Prim.Native.Nat.{ℕ, _+_, _-_, _*_, _/_, _%_, _^_, _≤_, _<_}
+use native.Mathlib.Nat.{lt-of-not-le, mul-pos}
 use native.Mathlib.Decide.{decLe}
 use native.Mathlib.Omega.{arith}
 use mathlib.Core.Bool.{Bool, true, false, cond, _&&_}
 use lib.Dec.{leb, eqb, lit≤}
-use borrow.Author.Tests.{le-leb, lt-leb, ne-eqb, leb-true, eqb-true}
+use borrow.Author.Tests.{le-leb, ne-eqb, leb-true, eqb-true}
 use lib.Pow.{pow-pos}
-use Rattle.number.specs.Fractions.{Frac, AtMost, Below}
-use Rattle.number.specs.Storing.{Scales, Stores, worth, exponentOf, mantissaOf}
-use Rattle.number.specs.Channels.{blackPower, brightPower, blackLimit, brightLimit, channelOf, leastExponent, greatestExponent, leastMantissa, IsLit, IsChannel, worthOf, codeOf, channelOfCode}
+use Rattle.number.specs.Fractions.{Frac, twoToMinus, twoTo, AtMost, Below}
+use Rattle.number.specs.Storing.{Scales, Stores, exponentOf, mantissaOf}
+use Rattle.number.specs.Channels.{blackPower, brightPower, channelOf, leastExponent, greatestExponent, leastMantissa, IsLit, IsChannel, worthOf, codeOf, channelOfCode}
 use Rattle.number.specs.declared.channel.Channel.{Channel}
 use Rattle.number.specs.declared.channel.Channel.the-variants.{Black, Lit}
 use Rattle.number.specs.declared.channel.Decoded.the-variants.{Holds, Refuses}
 use Rattle.number.specs.declared.ratio.Stored.{Stored}
 use Rattle.refusal.specs.declared.Refusal.the-variants.{TooBright, InvalidChannel}
-use Rattle.number.proofs.Scaling.{denominator-pos, rescale, at-most-down, above-down, at-most-up, above-up, exponent-above-down, exponent-at-most-up}
-use Rattle.number.proofs.Storing.{unit-pos, found, stored, promised, code-less}
+use Rattle.number.proofs.Scaling.{denominator-pos, rescale, exponent-above-down, exponent-at-most-up}
+use Rattle.number.proofs.Storing.{unit-pos, found, stored, promised, IsMantissa, code-order}
+use Rattle.number.proofs.Ranges.{small, within, large, small-at, within-at, large-at}
 
--- ---- the three outcomes
+-- ---- what F becomes
 
-pub black : (F : Frac) → AtMost F blackLimit → channelOf F ≡ Holds Black
+pub black : (F : Frac) → AtMost F (twoToMinus blackPower) → channelOf F ≡ Holds Black
 unfolding channelOf
-black F h = simp (le-leb _ _ (h .cross))
+black F h = small _ _ F _ _ _ h
 
-pub bright : (F : Frac) → Below blackLimit F → Below brightLimit F → channelOf F ≡ Refuses TooBright
-unfolding channelOf
-bright F a h = simp (lt-leb _ _ (a .cross), lt-leb _ _ (h .cross))
-
-pub lit : {F : Frac} {E M : ℕ} → Stores F E M → Below blackLimit F → AtMost F brightLimit → channelOf F ≡ Holds (Lit E M)
-unfolding channelOf
-lit {F} s a b =
-    simp (lt-leb _ _ (a .cross), le-leb _ _ (b .cross))
-    (ap (λ (r : Stored). Holds (Lit (r .exponent) (r .mantissa))) (found s (record { cross = refl }) (denominator-pos s)))
-
--- ---- by the exponent that scales F
-
+-- by the exponent that scales F
 module _ {F : Frac} {i j M : ℕ} (s : Scales F i j M) where
   pub black-at : j + 128 < i + leastExponent → channelOf F ≡ Holds Black
-  black-at h = black F (at-most-down s blackPower (omega arith))
-
-  pub bright-at : i + greatestExponent < j + 128 → channelOf F ≡ Refuses TooBright
-  bright-at h = bright F (above-down s blackPower (omega arith)) (above-up s brightPower (omega arith))
+  unfolding channelOf
+  black-at h = small-at _ _ _ _ _ _ s (omega arith)
 
   pub lit-at : i + leastExponent ≤ j + 128 → j + 128 ≤ i + greatestExponent → channelOf F ≡ Holds (Lit (j + 128 - i) M)
-  lit-at l h = lit (rescale s (omega arith)) (above-down s blackPower (omega arith)) (at-most-up s brightPower (omega arith))
+  unfolding channelOf
+  lit-at g h =
+      within-at _ _ _ _ _ _ s (omega arith) (omega arith)
+      ∙ ap (λ (r : Stored). Holds (Lit (r .exponent) (r .mantissa))) (found (rescale s (omega arith)) (record { cross = refl }) (denominator-pos s))
+
+  pub bright-at : i + greatestExponent < j + 128 → channelOf F ≡ Refuses TooBright
+  unfolding channelOf
+  bright-at h = large-at _ _ _ _ _ _ s (omega arith)
 
 -- "So lit channels have E 72 to 184."
-pub lit-valid : {F : Frac} {E M : ℕ} → Stores F E M → Below blackLimit F → AtMost F brightLimit → IsLit E M
+lit-valid : {F : Frac} {E M : ℕ} → Stores F E M → Below (twoToMinus blackPower) F → AtMost F (twoTo brightPower) → IsLit E M
 lit-valid s a b =
     let p = promised s in
     record {
@@ -61,18 +56,24 @@ lit-valid s a b =
 
 -- every channel that a number becomes is one
 pub channel-valid : (F : Frac) → 0 < F .den → (c : Channel) → channelOf F ≡ Holds c → IsChannel c
-channel-valid F p c h = go (decLe (F .num * blackLimit .den) (blackLimit .num * F .den)) (decLe (F .num * brightLimit .den) (brightLimit .num * F .den))
+unfolding channelOf
+channel-valid F p c h = go (decLe (F .num * 2 ^ blackPower) (1 * F .den)) (decLe (F .num * 1) (2 ^ brightPower * F .den))
   where
-    go : Dec (F .num * blackLimit .den ≤ blackLimit .num * F .den) → Dec (F .num * brightLimit .den ≤ brightLimit .num * F .den) → IsChannel c
-    go (yes a) b = let e : Black ≡ c = cc (black F (record { cross = a })) in subst IsChannel e tt
+    go : Dec (F .num * 2 ^ blackPower ≤ 1 * F .den) → Dec (F .num * 1 ≤ 2 ^ brightPower * F .den) → IsChannel c
+    go (yes a) b =
+        let q : channelOf F ≡ Holds Black = small _ _ F _ _ _ (record { cross = a }) in
+        let e : Black ≡ c = cc in
+        subst IsChannel e tt
     go (no a) (yes b) =
-        let low : Below blackLimit F = record { cross = lt-of-not-le a } in
-        let high : AtMost F brightLimit = record { cross = b } in
-        let s = stored F blackPower (lit≤ tt) p low in
-        let e : Lit (exponentOf F) (mantissaOf F) ≡ c = cc (lit s low high) in
-        subst IsChannel e (lit-valid s low high)
+        let low : Below (twoToMinus blackPower) F = record { cross = lt-of-not-le a } in
+        let high : AtMost F (twoTo brightPower) = record { cross = b } in
+        let q : channelOf F ≡ Holds (Lit (exponentOf F) (mantissaOf F)) = within _ _ F _ _ _ low high in
+        let e : Lit (exponentOf F) (mantissaOf F) ≡ c = cc in
+        subst IsChannel e (lit-valid (stored F blackPower (lit≤ tt) p low) low high)
     go (no a) (no b) =
-        let z : _≡_ {A = ℕ} 0 1 = cc (bright F (record { cross = lt-of-not-le a }) (record { cross = lt-of-not-le b })) in absurd (omega arith)
+        let q : channelOf F ≡ Refuses TooBright = large _ _ F _ _ _ (record { cross = lt-of-not-le b }) in
+        let z : _≡_ {A = ℕ} 0 1 = cc in
+        absurd (omega arith)
 
 -- ---- the 16-bit form and the channel determine each other
 
@@ -82,7 +83,14 @@ code-channel Black t = refl
 code-channel (Lit E M) t =
     let high : (256 * E + M) / 256 ≡ E = omega arith in
     let low : (256 * E + M) % 256 ≡ M = omega arith in
-    simp (ne-eqb (256 * E + M) 0 (λ e. omega arith), high, low, le-leb leastExponent E (t .exponent-least), le-leb E greatestExponent (t .exponent-most), le-leb leastMantissa M (t .mantissa-least))
+    simp (
+      ne-eqb (256 * E + M) 0 (λ e. omega arith),
+      high,
+      low,
+      le-leb leastExponent E (t .exponent-least),
+      le-leb E greatestExponent (t .exponent-most),
+      le-leb leastMantissa M (t .mantissa-least),
+    )
 
 -- a channel and the number that it came from
 pub record Coded (n : ℕ) (c : Channel) : Type 0 where
@@ -120,15 +128,12 @@ channel-code n c h = go (eqb n 0) (leb leastExponent E) (leb E greatestExponent)
     go false false b d z₁ a₁ b₁ d₁ q = let z : _≡_ {A = ℕ} 0 1 = cc in absurd (omega arith)
 
 -- the order of the 16-bit forms is that of the worths
-pub code-order : (c c′ : Channel) → IsChannel c → IsChannel c′ → (codeOf c < codeOf c′) ↔ Below (worthOf c) (worthOf c′)
-code-order Black Black t t′ = (λ h. absurd (omega arith), λ h. absurd (omega (arith, h .cross)))
-code-order Black (Lit E M) t t′ =
+pub channel-order : (c c′ : Channel) → IsChannel c → IsChannel c′ → (codeOf c < codeOf c′) ↔ Below (worthOf c) (worthOf c′)
+channel-order Black Black t t′ = (λ h. absurd (omega arith), λ h. absurd (omega (arith, h .cross)))
+channel-order Black (Lit E M) t t′ =
     (λ h. record { cross = omega (arith, mul-pos (mul-pos {m = 2 * M + 1} (omega arith) (pow-pos E)) unit-pos) }, λ h. omega (arith, t′ .mantissa-least))
-code-order (Lit E M) Black t t′ = (λ h. absurd (omega arith), λ h. absurd (omega (arith, h .cross)))
-code-order (Lit E M) (Lit E′ M′) t t′ = (
-  λ h. code-less E M E′ M′ (t .mantissa-most) (t′ .mantissa-least) (t′ .mantissa-most) h,
-  λ h. lt-of-not-le (λ g. ⊎-elim (λ e. equal e h) (λ l. lt-irrefl _ (lt-trans (h .cross) (code-less E′ M′ E M (t′ .mantissa-most) (t .mantissa-least) (t .mantissa-most) l .cross))) (eq-or-lt-of-le g)),
-)
+channel-order (Lit E M) Black t t′ = (λ h. absurd (omega arith), λ h. absurd (omega (arith, h .cross)))
+channel-order (Lit E M) (Lit E′ M′) t t′ = code-order E M E′ M′ (mantissa t) (mantissa t′)
   where
-    equal : 256 * E′ + M′ ≡ 256 * E + M → Below (worth E M) (worth E′ M′) → ⊥
-    equal e h = lt-irrefl _ (subst₂ (λ (x m : ℕ). Below (worth E M) (worth x m)) (omega arith) (omega arith) h .cross)
+    mantissa : {E M : ℕ} → IsLit E M → IsMantissa M
+    mantissa u = record { least = u .mantissa-least; most = u .mantissa-most }

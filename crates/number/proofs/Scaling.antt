@@ -19,7 +19,7 @@ use native.Mathlib.Nat.{
 }
 use native.Mathlib.Omega.{arith}
 use lib.Pow.{pow-pos, pow-mono, pow-add}
-use Rattle.number.specs.Fractions.{Frac, _over_, Equal, AtMost, Below}
+use Rattle.number.specs.Fractions.{Frac, _over_, twoToMinus, twoTo, Equal, AtMost, Below}
 use Rattle.number.specs.Storing.{Scales}
 use Rattle.number.proofs.Normals.{divisor-pos, ratio, mantissa-mono}
 
@@ -28,7 +28,7 @@ left-pos : (a b : ℕ) → 0 < a * b → 0 < a
 left-pos zero b h = omega arith
 left-pos (suc a) b h = omega arith
 
-pub pow-split : (n a b : ℕ) → n * 2 ^ (a + b) ≡ n * 2 ^ a * 2 ^ b
+pow-split : (n a b : ℕ) → n * 2 ^ (a + b) ≡ n * 2 ^ a * 2 ^ b
 pow-split n a b = ap (λ (z : ℕ). n * z) (pow-add 2 a b) ∙ sym (mul-assoc n (2 ^ a) (2 ^ b))
 
 -- ---- the same number, written otherwise
@@ -37,13 +37,16 @@ module _ {F : Frac} {i j M : ℕ} (s : Scales F i j M) where
   pub denominator-pos : 0 < F .den
   denominator-pos = left-pos (F .den) (2 ^ j) (divisor-pos (s .normal))
 
-  transfer : {G : Frac} {i′ j′ : ℕ} → F .num * 2 ^ i * (G .den * 2 ^ j′) ≡ G .num * 2 ^ i′ * (F .den * 2 ^ j) → 0 < G .den → Scales G i′ j′ M
+  transfer : {G : Frac} {i′ j′ : ℕ} → F .num * 2 ^ i * (G .den * 2 ^ j′) ≡ G .num * 2 ^ i′ * (F .den * 2 ^ j) → 0 < G .den
+      → Scales G i′ j′ M
   transfer {j′ = j′} e p = record { normal = ratio (s .normal) e (mul-pos p (pow-pos j′)) }
 
   -- equal fractions are scaled alike
   pub same : {G : Frac} → Equal F G → 0 < G .den → Scales G i j M
-  same {G} e p =
-      transfer (mul-mul-mul-comm (F .num) (2 ^ i) (G .den) (2 ^ j) ∙ ap (λ (z : ℕ). z * (2 ^ i * 2 ^ j)) (e .cross) ∙ mul-mul-mul-comm (G .num) (F .den) (2 ^ i) (2 ^ j)) p
+  same {G} e p = transfer (cross (2 ^ i) (2 ^ j)) p
+    where
+      cross : (a b : ℕ) → F .num * a * (G .den * b) ≡ G .num * a * (F .den * b)
+      cross a b = omega (arith, ap (λ (z : ℕ). z * (a * b)) (e .cross))
 
   -- only the difference of i and j counts
   pub rescale : {i′ j′ : ℕ} → i + j′ ≡ i′ + j → Scales F i′ j′ M
@@ -54,7 +57,8 @@ module _ {F : Frac} {i j M : ℕ} (s : Scales F i j M) where
 
 -- powers of two go into the numerator and the denominator
 pub into : {n d i j M : ℕ} (a b : ℕ) → Scales (n over d) (a + i) (b + j) M → Scales (n * 2 ^ a over d * 2 ^ b) i j M
-into {n} {d} {i} {j} a b s = transfer s (ap₂ _*_ (pow-split n a i) (sym (pow-split d b j))) (mul-pos (denominator-pos s) (pow-pos b))
+into {n} {d} {i} {j} a b s =
+    transfer s (ap₂ _*_ (pow-split n a i) (sym (pow-split d b j))) (mul-pos (denominator-pos s) (pow-pos b))
 
 -- of a whole number
 pub whole-into : {m i j M : ℕ} (a b : ℕ) → Scales (m over 1) (a + i) (b + j) M → Scales (m * 2 ^ a over 2 ^ b) i j M
@@ -62,20 +66,23 @@ whole-into a b s = same (into a b s) (record { cross = omega arith }) (pow-pos b
 
 -- and out of them
 pub out-of : (n d a b : ℕ) {i j M : ℕ} → Scales (n * 2 ^ a over d * 2 ^ b) i j M → Scales (n over d) (a + i) (b + j) M
-out-of n d a b {i} {j} s = transfer s (ap₂ _*_ (sym (pow-split n a i)) (pow-split d b j)) (left-pos d (2 ^ b) (denominator-pos s))
+out-of n d a b {i} {j} s =
+    transfer s (ap₂ _*_ (sym (pow-split n a i)) (pow-split d b j)) (left-pos d (2 ^ b) (denominator-pos s))
 
--- ---- F against a power of two: the thresholds of the exponent
+-- ---- the thresholds of the exponent: F against 2^-k (down) and 2^k (up)
 
 apart : {F G : Frac} → AtMost F G → Below G F → ⊥
 apart a b = not-le-of-lt (b .cross) (a .cross)
 
 module _ {F : Frac} {i j M : ℕ} (s : Scales F i j M) (k : ℕ) where
-  pub at-most-down : j + k ≤ i → AtMost F (1 over 2 ^ k)
+  pub at-most-down : j + k ≤ i → AtMost F (twoToMinus k)
   at-most-down h =
-      let t = rescale s {i′ = i - j} {j′ = 0} (omega arith) in
-      record { cross = le-trans (mul-le-mul-left (F .num) (pow-mono {j = i - j} (omega arith))) (omega (arith, t .normal .at-most-one)) }
+      record {
+        cross = le-trans (mul-le-mul-left (F .num) (pow-mono {j = i - j} (omega arith)))
+            (omega (arith, rescale s {i′ = i - j} {j′ = 0} (omega arith) .normal .at-most-one));
+      }
 
-  pub above-down : i < j + k → Below (1 over 2 ^ k) F
+  pub above-down : i < j + k → Below (twoToMinus k) F
   above-down h =
       record {
         cross = omega (
@@ -85,11 +92,17 @@ module _ {F : Frac} {i j M : ℕ} (s : Scales F i j M) (k : ℕ) where
         );
       }
 
-  pub at-most-up : j ≤ i + k → AtMost F (2 ^ k over 1)
+  pub at-most-up : j ≤ i + k → AtMost F (twoTo k)
   at-most-up h =
-      record { cross = omega (arith, le-mul-of-pos-right (F .num) (pow-pos (i + k - j)), rescale s {i′ = i + k - j} {j′ = k} (omega arith) .normal .at-most-one) }
+      record {
+        cross = omega (
+          arith,
+          le-mul-of-pos-right (F .num) (pow-pos (i + k - j)),
+          rescale s {i′ = i + k - j} {j′ = k} (omega arith) .normal .at-most-one,
+        );
+      }
 
-  pub above-up : i + k < j → Below (2 ^ k over 1) F
+  pub above-up : i + k < j → Below (twoTo k) F
   above-up h =
       record {
         cross = omega (
@@ -101,10 +114,10 @@ module _ {F : Frac} {i j M : ℕ} (s : Scales F i j M) (k : ℕ) where
       }
 
   -- and back
-  pub exponent-above-down : Below (1 over 2 ^ k) F → i < j + k
+  pub exponent-above-down : Below (twoToMinus k) F → i < j + k
   exponent-above-down h = lt-of-not-le (λ g. apart (at-most-down g) h)
 
-  pub exponent-at-most-up : AtMost F (2 ^ k over 1) → j ≤ i + k
+  pub exponent-at-most-up : AtMost F (twoTo k) → j ≤ i + k
   exponent-at-most-up h = le-of-suc-le-suc (lt-of-not-le (λ g. apart h (above-up g)))
 
 -- ---- two numbers
@@ -114,8 +127,8 @@ module _ {F G : Frac} {i j M j′ M′ : ℕ} (s : Scales F i j M) (t : Scales G
   pub exponent-mono : j ≤ j′
   exponent-mono =
       le-of-suc-le-suc (lt-of-not-le (λ (g : suc j′ ≤ j).
-      clash (F .num) (F .den) (G .num) (G .den) (2 ^ i) (2 ^ j′) (2 ^ j) (s .normal .above-half) (t .normal .at-most-one) (h .cross)
-      (le-trans (le-of-eq (sym (pow-succ' 2 j′))) (pow-mono g)) (denominator-pos t)))
+      clash (F .num) (F .den) (G .num) (G .den) (2 ^ i) (2 ^ j′) (2 ^ j)
+      (s .normal .above-half) (t .normal .at-most-one) (h .cross) (le-trans (le-of-eq (sym (pow-succ' 2 j′))) (pow-mono g)) (denominator-pos t)))
     where
       clash : (n d n′ d′ B p q : ℕ) → d * q < 2 * (n * B) → n′ * B ≤ d′ * p → n * d′ ≤ n′ * d → 2 * p ≤ q → 0 < d′ → ⊥
       clash n d n′ d′ B p q a b h g k =
@@ -131,20 +144,21 @@ module _ {F G : Frac} {i j M j′ M′ : ℕ} (s : Scales F i j M) (t : Scales G
       widen B q = omega (arith, mul-le-mul-right (B * q) (h .cross))
 
 -- equal numbers have the same exponent and mantissa, for any i and j
-pub unique : {F G : Frac} {i j M i′ j′ M′ : ℕ} → Scales F i j M → Scales G i′ j′ M′ → Equal F G → (j + i′ ≡ j′ + i) × (M ≡ M′)
-unique {F} {G} {i} {j} {M} {i′} {j′} {M′} s t e = (level, le-antisymm (same-exponent-mono a b up level) (same-exponent-mono b a down (sym level)))
-  where
-    a : Scales F (i + i′) (j + i′) M
-    a = rescale s (omega arith)
+module _ {F G : Frac} {i j M i′ j′ M′ : ℕ} (s : Scales F i j M) (t : Scales G i′ j′ M′) (e : Equal F G) where
+  a : Scales F (i + i′) (j + i′) M
+  a = rescale s (omega arith)
 
-    b : Scales G (i + i′) (j′ + i) M′
-    b = rescale t (omega arith)
+  b : Scales G (i + i′) (j′ + i) M′
+  b = rescale t (omega arith)
 
-    up : AtMost F G
-    up = record { cross = le-of-eq (e .cross) }
+  up : AtMost F G
+  up = record { cross = le-of-eq (e .cross) }
 
-    down : AtMost G F
-    down = record { cross = le-of-eq (sym (e .cross)) }
+  down : AtMost G F
+  down = record { cross = le-of-eq (sym (e .cross)) }
 
-    level : j + i′ ≡ j′ + i
-    level = le-antisymm (exponent-mono a b up) (exponent-mono b a down)
+  pub unique-exponent : j + i′ ≡ j′ + i
+  unique-exponent = le-antisymm (exponent-mono a b up) (exponent-mono b a down)
+
+  pub unique-mantissa : M ≡ M′
+  unique-mantissa = le-antisymm (same-exponent-mono a b up unique-exponent) (same-exponent-mono b a down (sym unique-exponent))

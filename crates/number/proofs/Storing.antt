@@ -1,6 +1,6 @@
 -- The laws of storing. `exponentOf` and `mantissaOf` are opened here and nowhere else. Assumes nothing.
-use mathlib.Core.Path.{_≡_, refl, sym, ap, ap₂, _∙_, subst}
-use mathlib.Core.Logic.{⊎-elim}
+use mathlib.Core.Path.{_≡_, refl, sym, ap, ap₂, _∙_, subst, subst₂}
+use mathlib.Core.Logic.{_↔_, ⊎-elim}
 use Prim.Native.Nat.{ℕ, zero, suc, _+_, _-_, _*_, _/_, _^_, _≤_, _<_}
 use native.Mathlib.Nat.{
   div-lt-iff-lt-mul,
@@ -11,8 +11,11 @@ use native.Mathlib.Nat.{
   le-of-lt,
   le-refl,
   le-trans,
+  lt-irrefl,
   lt-of-le-of-lt,
   lt-of-lt-of-le,
+  lt-of-not-le,
+  lt-trans,
   mul-le-mul,
   mul-le-mul-left,
   mul-le-mul-right,
@@ -20,12 +23,11 @@ use native.Mathlib.Nat.{
   pow-succ',
 }
 use native.Mathlib.Omega.{arith}
-use borrow.Author.Tests.{le-leb, lt-leb}
-use lib.Dec.{T, leb, ltb, leb→le, ltb→lt, lit<}
+use lib.Dec.{T, leb, ltb, leb→le, ltb→lt, lit<, lit≤}
 use lib.Ieee.{size}
 use lib.Ieee.Digits.{size-lt, size-reaches}
 use lib.Pow.{pow-pos, pow-mono}
-use Rattle.number.specs.Fractions.{Frac, _over_, Positive, Equal, AtMost, Below}
+use Rattle.number.specs.Fractions.{Frac, _over_, twoToMinus, Positive, Equal, AtMost, Below}
 use Rattle.number.specs.Storing.{unit, worth, Normal, Scales, Stores, Promised, exponentOf, mantissaOf, storedOf, ratioOf}
 use Rattle.number.specs.declared.ratio.StoredRatio.the-variants.{InRange, OutOfRange}
 use Rattle.number.proofs.Normals.{mantissa-least, mantissa-most, floor, ceiling}
@@ -35,13 +37,12 @@ use Rattle.number.proofs.Scaling.{
   rescale,
   into,
   out-of,
-  above-down,
-  at-most-up,
-  above-up,
   exponent-mono,
   same-exponent-mono,
-  unique,
+  unique-exponent,
+  unique-mantissa,
 }
+use Rattle.number.proofs.Ranges.{within, small-at, within-at, large-at}
 
 pub unit-pos : 0 < unit
 unfolding unit
@@ -68,9 +69,9 @@ pub shift : {n d E M : ℕ} (k : ℕ) → Stores (n over d) E M → Stores (n * 
 shift {n} {d} k s = same (into k 0 (rescale s (omega arith))) (record { cross = omega arith }) (denominator-pos s)
 
 -- a worth is stored as itself
-pub again : (E M : ℕ) → 128 ≤ M → M ≤ 255 → Stores (worth E M) E M
+pub idempotent : (E M : ℕ) → 128 ≤ M → M ≤ 255 → Stores (worth E M) E M
 unfolding unit
-again E M l h = into {n = 2 * M + 1} {d = 1} E 137 (rescale {i = 0} {j = 9} (record { normal = omega arith }) (omega arith))
+idempotent E M l h = into {n = 2 * M + 1} {d = 1} E 137 (rescale {i = 0} {j = 9} (record { normal = omega arith }) (omega arith))
 
 -- ---- the order of worths
 
@@ -83,23 +84,40 @@ steep E E′ M M′ h l g = less (2 ^ E) (2 ^ E′) (pow-pos E) (le-trans (le-of
 
 -- storing is monotone
 pub worth-mono : {F G : Frac} {E M E′ M′ : ℕ} → Stores F E M → Stores G E′ M′ → AtMost F G → AtMost (worth E M) (worth E′ M′)
-worth-mono {F} {G} {E} {M} {E′} {M′} s t h =
-    record {
-      cross = mul-le-mul-right unit (⊎-elim
-          (λ e. subst (λ (z : ℕ). (2 * M + 1) * 2 ^ E ≤ (2 * M′ + 1) * 2 ^ z) e (mul-le-mul-right (2 ^ E) (omega (arith, same-exponent-mono s t h e))))
-          (λ l. le-of-lt (steep E E′ M M′ (mantissa-most (s .normal)) (mantissa-least (t .normal)) l))
-          (eq-or-lt-of-le (exponent-mono s t h)));
-    }
+worth-mono {F} {G} {E} {M} {E′} {M′} s t h = record { cross = mul-le-mul-right unit (⊎-elim level higher (eq-or-lt-of-le (exponent-mono s t h))) }
+  where
+    level : E ≡ E′ → (2 * M + 1) * 2 ^ E ≤ (2 * M′ + 1) * 2 ^ E′
+    level e =
+        subst (λ (z : ℕ). (2 * M + 1) * 2 ^ E ≤ (2 * M′ + 1) * 2 ^ z) e
+        (mul-le-mul-right (2 ^ E) (omega (arith, same-exponent-mono s t h e)))
+
+    higher : E < E′ → (2 * M + 1) * 2 ^ E ≤ (2 * M′ + 1) * 2 ^ E′
+    higher l = le-of-lt (steep E E′ M M′ (mantissa-most (s .normal)) (mantissa-least (t .normal)) l)
+
+-- a mantissa as storing makes it
+pub record IsMantissa (M : ℕ) : Type 0 where
+  pub least : 128 ≤ M
+  pub most : M ≤ 255
 
 -- the numbers 256E + M go in the order of the worths
-pub code-less : (E M E′ M′ : ℕ) → M ≤ 255 → 128 ≤ M′ → M′ ≤ 255 → 256 * E + M < 256 * E′ + M′ → Below (worth E M) (worth E′ M′)
-code-less E M E′ M′ h l k g =
-    record {
-      cross = mul-lt-mul-of-pos-right (⊎-elim
-          (λ e. subst (λ (z : ℕ). (2 * M + 1) * 2 ^ E < (2 * M′ + 1) * 2 ^ z) e (mul-lt-mul-of-pos-right (omega arith) (pow-pos E)))
-          (λ d. steep E E′ M M′ h l d)
-          (eq-or-lt-of-le {n = E} {m = E′} (omega arith))) unit-pos;
-    }
+pub code-less : (E M E′ M′ : ℕ) → IsMantissa M → IsMantissa M′ → 256 * E + M < 256 * E′ + M′ → Below (worth E M) (worth E′ M′)
+code-less E M E′ M′ m m′ g = record { cross = mul-lt-mul-of-pos-right (⊎-elim level higher (eq-or-lt-of-le {n = E} {m = E′} (omega arith))) unit-pos }
+  where
+    level : E ≡ E′ → (2 * M + 1) * 2 ^ E < (2 * M′ + 1) * 2 ^ E′
+    level e =
+        subst (λ (z : ℕ). (2 * M + 1) * 2 ^ E < (2 * M′ + 1) * 2 ^ z) e (mul-lt-mul-of-pos-right (omega arith) (pow-pos E))
+
+    higher : E < E′ → (2 * M + 1) * 2 ^ E < (2 * M′ + 1) * 2 ^ E′
+    higher l = steep E E′ M M′ (m .most) (m′ .least) l
+
+pub code-order : (E M E′ M′ : ℕ) → IsMantissa M → IsMantissa M′ → (256 * E + M < 256 * E′ + M′) ↔ Below (worth E M) (worth E′ M′)
+code-order E M E′ M′ m m′ = (code-less E M E′ M′ m m′, λ h. lt-of-not-le (λ g. ⊎-elim (equal h) (greater h) (eq-or-lt-of-le g)))
+  where
+    equal : Below (worth E M) (worth E′ M′) → 256 * E′ + M′ ≡ 256 * E + M → ⊥
+    equal h e = lt-irrefl _ (subst₂ (λ (x y : ℕ). Below (worth E M) (worth x y)) (omega arith) (omega arith) h .cross)
+
+    greater : Below (worth E M) (worth E′ M′) → 256 * E′ + M′ < 256 * E + M → ⊥
+    greater h l = lt-irrefl _ (lt-trans (h .cross) (code-less E′ M′ E M m′ m l .cross))
 
 -- ---- `exponentOf` and `mantissaOf` store
 
@@ -112,13 +130,14 @@ least N d (suc e) p a f = rw (pow-succ' 2 e) (twice (2 ^ e) (le-div-iff-mul-le p
     twice q h = omega arith
 
 -- every number above 2^-129, so above 2^-k for a smaller k
-pub stored : (F : Frac) (k : ℕ) → k ≤ 129 → 0 < F .den → Below (1 over 2 ^ k) F → Stores F (exponentOf F) (mantissaOf F)
+pub stored : (F : Frac) (k : ℕ) → k ≤ 129 → 0 < F .den → Below (twoToMinus k) F → Stores F (exponentOf F) (mantissaOf F)
 unfolding exponentOf mantissaOf
 stored F k l p a =
     let q = (F .num * 2 ^ 128 - 1) / F .den in
     record {
       normal = record {
-        above-half = least (F .num * 2 ^ 128) (F .den) (size q) p (double (2 ^ 128) (lt-of-lt-of-le (a .cross) (mul-le-mul-left (F .num) (pow-mono l)))) (size-reaches q);
+        above-half = least (F .num * 2 ^ 128) (F .den) (size q) p
+            (double (2 ^ 128) (lt-of-lt-of-le (a .cross) (mul-le-mul-left (F .num) (pow-mono l)))) (size-reaches q);
         at-most-one = upper (F .num * 2 ^ 128) (2 ^ size q) (div-lt-iff-lt-mul p .0 (size-lt q));
         digits = refl;
       };
@@ -130,55 +149,57 @@ stored F k l p a =
     upper : (N b : ℕ) → N - 1 < b * F .den → N ≤ F .den * b
     upper N b h = omega arith
 
--- whoever stores F, or a fraction equal to it, has found these
+-- whoever stores F has found these of every fraction equal to it
 pub found : {F G : Frac} {E M : ℕ} → Stores F E M → Equal F G → 0 < G .den → storedOf G ≡ record { exponent = E; mantissa = M }
 found {F} {G} {E} {M} s e p =
-    let t = same s e p in
-    let u = unique (stored G 129 (le-refl 129) p (record { cross = halve (2 ^ 128) (2 ^ E) (pow-pos E) (t .normal .above-half) })) t (record { cross = refl }) in
-    ap₂ (λ (x m : ℕ). record { exponent = x; mantissa = m }) (omega (arith, u .0)) (u .1)
+    ap₂ (λ (x m : ℕ). record { exponent = x; mantissa = m }) (omega (arith, unique-exponent u t itself)) (unique-mantissa u t itself)
   where
-    halve : (B q : ℕ) → 0 < q → G .den * q < 2 * (G .num * B) → 1 * G .den < G .num * (B * 2)
-    halve B q o h = lt-of-le-of-lt (le-trans (le-of-eq (omega arith)) (le-mul-of-pos-right (G .den) o)) (omega arith)
+    itself : Equal G G
+    itself = record { cross = refl }
 
--- every positive number can be scaled, however small
+    t : Stores G E M
+    t = same s e p
+
+    halve : (B q : ℕ) → 0 < q → G .den * q < 2 * (G .num * B) → 1 * G .den < G .num * (B * 2)
+    halve B q o h = omega (arith, le-mul-of-pos-right (G .den) o)
+
+    u : Stores G (exponentOf G) (mantissaOf G)
+    u = stored G 129 (le-refl 129) p (record { cross = halve (2 ^ 128) (2 ^ E) (pow-pos E) (t .normal .above-half) })
+
+-- every positive number can be scaled, however small: F · 2^k is above 1 where 2^k is above the denominator
 pub exists : (F : Frac) → Positive F → (i : ℕ) × (j : ℕ) × (M : ℕ) × Scales F i j M
-exists F p =
-    let k = size (F .den) in
-    let G = F .num * 2 ^ k over F .den * 2 ^ 0 in
-    (k + 128, 0 + exponentOf G, mantissaOf G, out-of (F .num) (F .den) k 0 (stored G 129 (le-refl 129) (omega (arith, p .denominator)) (record { cross = large (2 ^ k) (2 ^ 129) (size-lt (F .den)) (pow-pos 129) })))
+exists F p = (k + 128, 0 + exponentOf G, mantissaOf G, out-of (F .num) (F .den) k 0 (stored G 0 (lit≤ tt) (omega (arith, p .denominator)) above))
   where
-    large : (q B : ℕ) → F .den < q → 0 < B → 1 * (F .den * 1) < F .num * q * B
-    large q B h o = omega (arith, mul-le-mul-right (q * B) (p .numerator), mul-le-mul-left q o)
+    k : ℕ
+    k = size (F .den)
+
+    G : Frac
+    G = F .num * 2 ^ k over F .den * 2 ^ 0
+
+    above : Below (twoToMinus 0) G
+    above = record { cross = omega (arith, size-lt (F .den), mul-le-mul-right (2 ^ k) (p .numerator)) }
 
 -- ---- storing where the exponent fits eight bits
 
-pub too-small : (F : Frac) → AtMost F (1 over 2 ^ 129) → ratioOf F ≡ OutOfRange
+pub too-small-at : {F : Frac} {i j M : ℕ} → Scales F i j M → j + 129 ≤ i → ratioOf F ≡ OutOfRange
 unfolding ratioOf
-too-small F h = simp (le-leb _ _ (h .cross))
+too-small-at s h = small-at _ _ _ _ _ _ s h
 
-pub too-large : (F : Frac) → Below (1 over 2 ^ 129) F → Below (2 ^ 127 over 1) F → ratioOf F ≡ OutOfRange
+pub fits-at : {F : Frac} {E M : ℕ} → Stores F E M → E ≤ 255 → ratioOf F ≡ InRange (record { exponent = E; mantissa = M })
 unfolding ratioOf
-too-large F a h = simp (lt-leb _ _ (a .cross), lt-leb _ _ (h .cross))
+fits-at s h = within-at _ _ _ _ _ _ s (omega arith) h ∙ ap InRange (found s (record { cross = refl }) (denominator-pos s))
 
-pub fits : (F : Frac) → Below (1 over 2 ^ 129) F → AtMost F (2 ^ 127 over 1) → ratioOf F ≡ InRange (storedOf F)
+pub too-large-at : {F : Frac} {E M : ℕ} → Stores F E M → 255 < E → ratioOf F ≡ OutOfRange
 unfolding ratioOf
-fits F a b = simp (lt-leb _ _ (a .cross), le-leb _ _ (b .cross))
-
--- by the exponent
-module _ {F : Frac} {E M : ℕ} (s : Stores F E M) where
-  pub fits-at : E ≤ 255 → ratioOf F ≡ InRange (record { exponent = E; mantissa = M })
-  fits-at h = fits F (above-down s 129 (omega arith)) (at-most-up s 127 h) ∙ ap InRange (found s (record { cross = refl }) (denominator-pos s))
-
-  pub too-large-at : 255 < E → ratioOf F ≡ OutOfRange
-  too-large-at h = too-large F (above-down s 129 (omega arith)) (above-up s 127 h)
+too-large-at s h = large-at _ _ _ _ _ _ s h
 
 -- num / den · 2^exp in units, by bounds on the three; the two tests are on closed numbers and compute
 pub fits-between : {num den exp : ℕ} (n n′ d d′ e e′ : ℕ) → (n ≤ num) × (num ≤ n′) → (d ≤ den) × (den ≤ d′) → (e ≤ exp) × (exp ≤ e′)
     → T (ltb (1 * (d′ * 2 ^ 137)) (n * 2 ^ e * 2 ^ 129)) → T (leb (n′ * 2 ^ e′ * 1) (2 ^ 127 * (d * 2 ^ 137)))
     → ratioOf (num * 2 ^ exp over den * unit) ≡ InRange (storedOf (num * 2 ^ exp over den * unit))
-unfolding unit
+unfolding unit ratioOf
 fits-between n n′ d d′ e e′ hn hd he lo hi =
-    fits _
+    within _ _ _ _ _ _
     (record {
       cross = lt-of-le-of-lt (mul-le-mul-left 1 (mul-le-mul-right (2 ^ 137) (hd .1)))
           (lt-of-lt-of-le (ltb→lt _ _ lo) (mul-le-mul-right (2 ^ 129) (mul-le-mul (hn .0) (pow-mono (he .0)))));

@@ -1,8 +1,8 @@
 -- What a channel is: "black, stored as (0,0), or lit, stored as exponent E and mantissa M". Assumes nothing.
 use mathlib.Core.Bool.{cond, _&&_}
-use Prim.Native.Nat.{ℕ, _+_, _*_, _/_, _%_, _^_, _≤_}
+use Prim.Native.Nat.{ℕ, _+_, _*_, _/_, _%_, _≤_}
 use lib.Dec.{leb, eqb}
-use Rattle.number.specs.Fractions.{Frac, _over_, atMost}
+use Rattle.number.specs.Fractions.{Frac, _over_, byRange}
 use Rattle.number.specs.Storing.{unit, worth, exponentOf, mantissaOf}
 use Rattle.number.specs.declared.channel.Channel.{Channel}
 use Rattle.number.specs.declared.channel.Channel.the-variants.{Black, Lit}
@@ -17,17 +17,9 @@ blackPower = 57
 abbrev pub brightPower : ℕ
 brightPower = 56
 
-abbrev pub blackLimit : Frac
-blackLimit = 1 over 2 ^ blackPower
-
-abbrev pub brightLimit : Frac
-brightLimit = 2 ^ brightPower over 1
-
 -- the channel of F
 unfoldable pub channelOf : Frac → Decoded
-channelOf F =
-    cond (atMost F blackLimit) (Holds Black)
-    (cond (atMost F brightLimit) (Holds (Lit (exponentOf F) (mantissaOf F))) (Refuses TooBright))
+channelOf F = byRange blackPower brightPower F (Holds Black) (Holds (Lit (exponentOf F) (mantissaOf F))) (Refuses TooBright)
 
 -- "E 72..184 with M 128..255"
 abbrev pub leastExponent : ℕ

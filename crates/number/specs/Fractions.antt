@@ -1,8 +1,8 @@
 -- Fractions of two whole numbers, never reduced and compared by cross products. Those that occur have a positive denominator.
 -- Assumes nothing.
 use mathlib.Core.Path.{_≡_}
-use mathlib.Core.Bool.{Bool}
-use Prim.Native.Nat.{ℕ, _*_, _≤_, _<_}
+use mathlib.Core.Bool.{Bool, cond}
+use Prim.Native.Nat.{ℕ, _*_, _^_, _≤_, _<_}
 use lib.Dec.{leb}
 
 pub record Frac : Type 0 where
@@ -12,6 +12,13 @@ pub record Frac : Type 0 where
 infix 55 _over_
 abbrev pub _over_ : ℕ → ℕ → Frac
 n over d = record { num = n; den = d }
+
+-- 2^-k and 2^k
+abbrev pub twoToMinus : ℕ → Frac
+twoToMinus k = 1 over 2 ^ k
+
+abbrev pub twoTo : ℕ → Frac
+twoTo k = 2 ^ k over 1
 
 pub record Positive (x : Frac) : Type 0 where
   pub numerator : 0 < x .num
@@ -32,6 +39,10 @@ pub record Below (x y : Frac) : Type 0 where
 -- the test whether x is at most y
 abbrev pub atMost : Frac → Frac → Bool
 atMost x y = leb (x .num * y .den) (y .num * x .den)
+
+-- one of three answers: for x at or below 2^-k, for x above that and at most 2^l, and for x above 2^l
+unfoldable pub byRange : {A : Type 0} (k l : ℕ) (x : Frac) (small within large : A) → A
+byRange k l x small within large = cond (atMost x (twoToMinus k)) small (cond (atMost x (twoTo l)) within large)
 
 -- s differs from x by less than x/256: 255x < 256s < 257x
 pub record Near (x s : Frac) : Type 0 where

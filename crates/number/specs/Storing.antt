@@ -1,9 +1,8 @@
 -- Storing a positive rational F as an exponent E and a mantissa M. Assumes nothing.
 use mathlib.Core.Path.{_≡_}
-use mathlib.Core.Bool.{cond}
 use Prim.Native.Nat.{ℕ, _+_, _-_, _*_, _/_, _^_, _≤_, _<_, min}
 use lib.Ieee.{size}
-use Rattle.number.specs.Fractions.{Frac, _over_, atMost, Near}
+use Rattle.number.specs.Fractions.{Frac, _over_, byRange, Near}
 use Rattle.number.specs.declared.ratio.Stored.{Stored}
 use Rattle.number.specs.declared.ratio.StoredRatio.{StoredRatio}
 use Rattle.number.specs.declared.ratio.StoredRatio.the-variants.{InRange, OutOfRange}
@@ -39,7 +38,7 @@ pub record Promised (F : Frac) (E M : ℕ) : Type 0 where
 
 -- ---- the same as functions, for every F above 2^-129
 
--- the least E with F ≤ 2^(E−128): as many binary digits as (F · 2^128 less the least part) has before the point
+-- 2^(E−1) < F · 2^128 ≤ 2^E: the greatest whole number below F · 2^128 has E binary digits
 unfoldable pub exponentOf : Frac → ℕ
 exponentOf F = size ((F .num * 2 ^ 128 - 1) / F .den)
 
@@ -51,4 +50,4 @@ storedOf F = record { exponent = exponentOf F; mantissa = mantissaOf F }
 
 -- F stored where E is 0 to 255, so that it fits eight bits: F above 2^-129 and at most 2^127
 unfoldable pub ratioOf : Frac → StoredRatio
-ratioOf F = cond (atMost F (1 over 2 ^ 129)) OutOfRange (cond (atMost F (2 ^ 127 over 1)) (InRange (storedOf F)) OutOfRange)
+ratioOf F = byRange 129 127 F OutOfRange (InRange (storedOf F)) OutOfRange

@@ -8,8 +8,9 @@ use lib.Pow.{pow-pos}
 use Rattle.number.specs.Fractions.{Frac, _over_}
 use Rattle.number.specs.Storing.{unit, Scales, Stores, ratioOf}
 use Rattle.number.specs.declared.ratio.StoredRatio.the-variants.{OutOfRange}
-use Rattle.number.proofs.Scaling.{rescale, into, at-most-down}
-use Rattle.number.proofs.Storing.{too-small, too-large, fits-at, too-large-at}
+use Rattle.number.proofs.Scaling.{rescale, into}
+use Rattle.number.proofs.Ranges.{small, large}
+use Rattle.number.proofs.Storing.{too-small-at, fits-at, too-large-at}
 use Rattle.number.proofs.ratio.store_ratio.Statement.{statement}
 use Rattle.number.proofs.ratio.store_ratio.Tie as tie
 
@@ -18,17 +19,22 @@ module _ (num den exp : ℕ) where
   F = num * 2 ^ exp over den * unit
 
   no-numerator : num ≡ 0 → ratioOf F ≡ OutOfRange
-  no-numerator e = too-small F (record { cross = subst (λ (z : ℕ). z * 2 ^ exp * 2 ^ 129 ≤ 1 * (den * unit)) (sym e) (none (2 ^ 129)) })
+  unfolding ratioOf
+  no-numerator e =
+      small _ _ _ _ _ _
+      (record { cross = subst (λ (z : ℕ). z * 2 ^ exp * 2 ^ 129 ≤ 1 * (den * unit)) (sym e) (none (2 ^ 129)) })
     where
       none : (B : ℕ) → 0 * 2 ^ exp * B ≤ 1 * (den * unit)
       none B = omega arith
 
   no-denominator : 0 < num → den ≡ 0 → ratioOf F ≡ OutOfRange
-  no-denominator p e = too-large F (record { cross = beyond 1 (2 ^ 129) (pow-pos 129) }) (record { cross = beyond (2 ^ 127) 1 (pow-pos 0) })
+  unfolding ratioOf
+  no-denominator p e =
+      large _ _ _ _ _ _
+      (record { cross = subst (λ (z : ℕ). 2 ^ 127 * (z * unit) < num * 2 ^ exp * 1) (sym e) (none (2 ^ 127)) })
     where
-      beyond : (A B : ℕ) → 0 < B → A * (den * unit) < num * 2 ^ exp * B
-      beyond A B o =
-          subst (λ (z : ℕ). A * (z * unit) < num * 2 ^ exp * B) (sym e) (omega (arith, mul-pos (mul-pos p (pow-pos exp)) o))
+      none : (A : ℕ) → A * (0 * unit) < num * 2 ^ exp * 1
+      none A = omega (arith, mul-pos p (pow-pos exp))
 
   -- the exponent is exp + down - (up + 9)
   module _ (up down : ℕ) {M : ℕ} (s : Scales (num over den) up down M) where
@@ -37,7 +43,7 @@ module _ (num den exp : ℕ) where
     moved i j e = into exp 137 (rescale s e)
 
     negative : exp + down < up + 9 → ratioOf F ≡ OutOfRange
-    negative h = too-small F (at-most-down (moved (up + 137) (exp + down) (omega arith)) 129 (omega arith))
+    negative h = too-small-at (moved (up + 137) (exp + down) (omega arith)) (omega arith)
 
     at : up + 9 ≤ exp + down → Stores F (exp + down - (up + 9)) M
     at h = moved 128 (exp + down - (up + 9)) (omega arith)
@@ -52,7 +58,8 @@ returns-3 : tie.Need-returns-3
 returns-3 c = sym (negative _ _ _ _ _ (c .before .before .before .scale .ensures) (c .if3 .taken))
 
 returns-4 : tie.Need-returns-4
-returns-4 c = sym (too-large-at (at _ _ _ _ _ (c .before .before .before .before .scale .ensures) (c .before .if3 .left)) (c .if4 .taken))
+returns-4 c =
+    sym (too-large-at (at _ _ _ _ _ (c .before .before .before .before .scale .ensures) (c .before .if3 .left)) (c .if4 .taken))
 
 returns-5 : tie.Need-returns-5
 returns-5 c = sym (fits-at (at _ _ _ _ _ (c .before .before .before .before .scale .ensures) (c .before .if3 .left)) (c .if4 .left))
