@@ -10,8 +10,20 @@ use lib.Dec.{leb, eqb, lit≤}
 use borrow.Author.Tests.{le-leb, ne-eqb, leb-true, eqb-true}
 use lib.Pow.{pow-pos}
 use Rattle.number.specs.Fractions.{Frac, twoToMinus, twoTo, AtMost, Below}
-use Rattle.number.specs.Storing.{Scales, Stores, exponentOf, mantissaOf}
-use Rattle.number.specs.Channels.{blackPower, brightPower, channelOf, leastExponent, greatestExponent, leastMantissa, IsLit, IsChannel, worthOf, codeOf, channelOfCode}
+use Rattle.number.specs.Storing.{unit, Scales, Stores, exponentOf, mantissaOf, storedOf}
+use Rattle.number.specs.Channels.{
+  blackPower,
+  brightPower,
+  channelOf,
+  leastExponent,
+  greatestExponent,
+  leastMantissa,
+  IsLit,
+  IsChannel,
+  worthOf,
+  codeOf,
+  channelOfCode,
+}
 use Rattle.number.specs.declared.channel.Channel.{Channel}
 use Rattle.number.specs.declared.channel.Channel.the-variants.{Black, Lit}
 use Rattle.number.specs.declared.channel.Decoded.the-variants.{Holds, Refuses}
@@ -36,8 +48,9 @@ module _ {F : Frac} {i j M : ℕ} (s : Scales F i j M) where
   pub lit-at : i + leastExponent ≤ j + 128 → j + 128 ≤ i + greatestExponent → channelOf F ≡ Holds (Lit (j + 128 - i) M)
   unfolding channelOf
   lit-at g h =
-      within-at _ _ _ _ _ _ s (omega arith) (omega arith)
-      ∙ ap (λ (r : Stored). Holds (Lit (r .exponent) (r .mantissa))) (found (rescale s (omega arith)) (record { cross = refl }) (denominator-pos s))
+      let stores : storedOf F ≡ record { exponent = j + 128 - i; mantissa = M } =
+      found (rescale s (omega arith)) (record { cross = refl }) (denominator-pos s) in
+      within-at _ _ _ _ _ _ s (omega arith) (omega arith) ∙ ap (λ (r : Stored). Holds (Lit (r .exponent) (r .mantissa))) stores
 
   pub bright-at : i + greatestExponent < j + 128 → channelOf F ≡ Refuses TooBright
   unfolding channelOf
@@ -131,7 +144,8 @@ channel-code n c h = go (eqb n 0) (leb leastExponent E) (leb E greatestExponent)
 pub channel-order : (c c′ : Channel) → IsChannel c → IsChannel c′ → (codeOf c < codeOf c′) ↔ Below (worthOf c) (worthOf c′)
 channel-order Black Black t t′ = (λ h. absurd (omega arith), λ h. absurd (omega (arith, h .cross)))
 channel-order Black (Lit E M) t t′ =
-    (λ h. record { cross = omega (arith, mul-pos (mul-pos {m = 2 * M + 1} (omega arith) (pow-pos E)) unit-pos) }, λ h. omega (arith, t′ .mantissa-least))
+    let positive : 0 < (2 * M + 1) * 2 ^ E * unit = mul-pos (mul-pos (omega arith) (pow-pos E)) unit-pos in
+    (λ h. record { cross = omega arith }, λ h. omega (arith, t′ .mantissa-least))
 channel-order (Lit E M) Black t t′ = (λ h. absurd (omega arith), λ h. absurd (omega (arith, h .cross)))
 channel-order (Lit E M) (Lit E′ M′) t t′ = code-order E M E′ M′ (mantissa t) (mantissa t′)
   where

@@ -9,7 +9,14 @@ pub use Rattle.number.proofs.Scaling.{denominator-pos, same, rescale, i
 -- a factor 2^k moves only the exponent; a stored worth is stored as itself; storing is monotone
 pub use Rattle.number.proofs.Storing.{unit-pos, shift, idempotent, worth-mono}
 -- the thresholds of the exponent
-pub use Rattle.number.proofs.Scaling.{at-most-down, above-down, at-most-up, above-up, exponent-above-down, exponent-at-most-up}
+pub use Rattle.number.proofs.Scaling.{
+  at-most-down,
+  above-down,
+  at-most-up,
+  above-up,
+  exponent-above-down,
+  exponent-at-most-up,
+}
 -- where the exponent fits eight bits
 pub use Rattle.number.proofs.Storing.{too-small-at, fits-at, too-large-at, fits-between}
 -- a fraction that is known to lie in the cell of a mantissa

@@ -63,8 +63,12 @@ ratio {x} {u} {M} {x′} {u′} s e p =
     record {
       above-half = lt-of-mul-lt-mul-right u (omega (arith, mul-lt-mul-of-pos-right (s .above-half) p));
       at-most-one = le-of-mul-le-mul-right {k = u} (omega (arith, mul-le-mul-right u′ (s .at-most-one))) (divisor-pos s);
-      digits = s .digits ∙ ap (min 255) (sym (mul-div-mul-right (256 * x) u p) ∙ ap₂ _/_ (omega arith) (mul-comm u u′) ∙ mul-div-mul-right (256 * x′) u′ (divisor-pos s));
+      digits = s .digits ∙ ap (min 255) quotient;
     }
+  where
+    quotient : 256 * x / u ≡ 256 * x′ / u′
+    quotient =
+        sym (mul-div-mul-right (256 * x) u p) ∙ ap₂ _/_ (omega arith) (mul-comm u u′) ∙ mul-div-mul-right (256 * x′) u′ (divisor-pos s)
 
 -- and grows with it
 pub mantissa-mono : {x u M x′ u′ M′ : ℕ} → Normal x u M → Normal x′ u′ M′ → x * u′ ≤ x′ * u → M ≤ M′

@@ -128,7 +128,8 @@ module _ {F G : Frac} {i j M j′ M′ : ℕ} (s : Scales F i j M) (t : Scales G
   exponent-mono =
       le-of-suc-le-suc (lt-of-not-le (λ (g : suc j′ ≤ j).
       clash (F .num) (F .den) (G .num) (G .den) (2 ^ i) (2 ^ j′) (2 ^ j)
-      (s .normal .above-half) (t .normal .at-most-one) (h .cross) (le-trans (le-of-eq (sym (pow-succ' 2 j′))) (pow-mono g)) (denominator-pos t)))
+      (s .normal .above-half) (t .normal .at-most-one) (h .cross)
+      (le-trans (le-of-eq (sym (pow-succ' 2 j′))) (pow-mono g)) (denominator-pos t)))
     where
       clash : (n d n′ d′ B p q : ℕ) → d * q < 2 * (n * B) → n′ * B ≤ d′ * p → n * d′ ≤ n′ * d → 2 * p ≤ q → 0 < d′ → ⊥
       clash n d n′ d′ B p q a b h g k =

@@ -18,11 +18,12 @@ pub record TopBit (v s : ℕ) : Type 0 where
 
 pub aligned : (v : ℕ) → 0 < v → v < 2 ^ 64 → TopBit v (leadingZeros 64 v)
 aligned v p h =
+    let s = leadingZeros 64 v in
     let t = leading-top 64 v p h in
     record {
       within = omega (arith, t .1);
-      large = le-trans (le-of-eq (sym (whole (t .0) (leadingZeros 64 v) (t .1)))) (mul-le-mul-right _ (t .2));
-      small = lt-of-lt-of-le (shl-lt (suc (t .0)) (leadingZeros 64 v) (t .3)) (pow-mono {i = suc (t .0) + leadingZeros 64 v} {j = 64} (omega (arith, t .1)));
+      large = le-trans (le-of-eq (sym (whole (t .0) s (t .1)))) (mul-le-mul-right _ (t .2));
+      small = lt-of-lt-of-le (shl-lt (suc (t .0)) s (t .3)) (pow-mono {i = suc (t .0) + s} {j = 64} (omega (arith, t .1)));
     }
 
 -- v is shifted by s to above 2^62 and at most to 2^63

@@ -27,12 +27,17 @@ pub record Between (a b : ℕ) (F : Frac) : Type 0 where
   pub upper : Below F (a + 1 over b)
 
 -- between the same neighbours, for a b that is a multiple of 256, the mantissa is the same
-module _ {x u M : ℕ} (x′ u′ a g : ℕ) (s : Normal x u M) (h : Between a (256 * g) (x over u)) (h′ : Between a (256 * g) (x′ over u′)) where
+module _ {x u M : ℕ} (x′ u′ a g : ℕ) (s : Normal x u M)
+    (h : Between a (256 * g) (x over u)) (h′ : Between a (256 * g) (x′ over u′)) where
   above : (c : ℕ) → c * u ≤ x * (256 * g) → c * u′ < x′ * (256 * g)
-  above c l = lt-of-le-of-lt (mul-le-mul-right u′ (omega (arith, lt-of-mul-lt-mul-right u {m = c} (lt-of-le-of-lt l (h .upper .cross))))) (h′ .lower .cross)
+  above c l =
+      let most : c < a + 1 = lt-of-mul-lt-mul-right u (lt-of-le-of-lt l (h .upper .cross)) in
+      lt-of-le-of-lt (mul-le-mul-right u′ (omega arith)) (h′ .lower .cross)
 
   below : (c : ℕ) → x * (256 * g) ≤ c * u → x′ * (256 * g) < c * u′
-  below c l = lt-of-lt-of-le (h′ .upper .cross) (mul-le-mul-right u′ (omega (arith, lt-of-mul-lt-mul-right u {m = a} (lt-of-lt-of-le (h .lower .cross) l))))
+  below c l =
+      let least : a < c = lt-of-mul-lt-mul-right u (lt-of-lt-of-le (h .lower .cross) l) in
+      lt-of-lt-of-le (h′ .upper .cross) (mul-le-mul-right u′ (omega arith))
 
   neighbours : Normal x′ u′ M
   neighbours =
@@ -58,10 +63,9 @@ sticky {F} {G} {i} {j} {M} {a} {b} s l h h′ =
 
     grid : 2 ^ i * (256 * (b * 2 ^ k)) ≡ b * 2 ^ j
     grid =
-        regroup (2 ^ i) (2 ^ k) ∙ ap (λ (z : ℕ). b * z) (sym (pow-add 2 (i + 8) k ∙ ap (λ (z : ℕ). z * 2 ^ k) (pow-add 2 i 8)) ∙ ap (λ (z : ℕ). 2 ^ z) (add-sub-of-le large))
-      where
-        regroup : (p q : ℕ) → p * (256 * (b * q)) ≡ b * (p * 256 * q)
-        regroup p q = omega arith
+        let split : 2 ^ j ≡ 2 ^ i * 256 * 2 ^ k =
+        ap (λ (z : ℕ). 2 ^ z) (sym (add-sub-of-le large)) ∙ pow-add 2 (i + 8) k ∙ ap (λ (z : ℕ). z * 2 ^ k) (pow-add 2 i 8) in
+        omega (arith, ap (λ (z : ℕ). b * z) split)
 
     widen : {H : Frac} → Between a b H → Between a (256 * (b * 2 ^ k)) (H .num * 2 ^ i over H .den * 2 ^ j)
     widen {H} t = stretch (2 ^ i) (2 ^ j) (256 * (b * 2 ^ k)) (pow-pos j) grid
@@ -73,11 +77,13 @@ sticky {F} {G} {i} {j} {M} {a} {b} s l h h′ =
               upper = record { cross = omega (arith, ap (λ (z : ℕ). H .num * z) f, mul-lt-mul-of-pos-right (t .upper .cross) o) };
             }
 
--- A number a · p + r, with r below p, may be cut to a with one more binary digit, which says whether r is not 0: what is stored is the same.
--- b divides both.
-pub cut : (a r p b : ℕ) {i j M : ℕ} → 128 * b ≤ a → 0 < b → r < p → Scales (2 * a + min 1 r over 2 * b) i j M → Scales (a * p + r over b * p) i j M
+-- The number (a · p + r) / (b · p), with r below p, may be cut to a / b with one binary digit more, the sticky bit, which says whether
+-- r is not 0: what is stored is the same.
+pub cut : (a r p b : ℕ) {i j M : ℕ} → 128 * b ≤ a → 0 < b → r < p
+    → Scales (2 * a + min 1 r over 2 * b) i j M → Scales (a * p + r over b * p) i j M
 cut a r p b l o q s =
-    ⊎-elim (λ e. same s (record { cross = exact e }) (mul-pos o (omega arith))) (λ h. sticky s l (half-way h) (inside h)) (eq-zero-or-pos r)
+    ⊎-elim (λ e. same s (record { cross = exact e }) (mul-pos o (omega arith))) (λ h. sticky s l (half-way h) (inside h))
+    (eq-zero-or-pos r)
   where
     exact : r ≡ 0 → (2 * a + min 1 r) * (b * p) ≡ (a * p + r) * (2 * b)
     exact e = ap (λ (m : ℕ). (2 * a + min 1 m) * (b * p)) e ∙ omega (arith, ap (λ (z : ℕ). z * b) e)
@@ -85,7 +91,7 @@ cut a r p b l o q s =
     half-way : 0 < r → Between a b (2 * a + min 1 r over 2 * b)
     half-way h =
         let one : 1 ≡ min 1 r = omega arith in
-        subst (λ (m : ℕ). Between a b (2 * a + m over 2 * b)) one (record { lower = record { cross = omega arith }; upper = record { cross = omega arith } })
+        subst (λ (m : ℕ). Between a b (2 * a + m over 2 * b)) one (omega arith)
 
     inside : 0 < r → Between a b (a * p + r over b * p)
     inside h =

@@ -84,7 +84,8 @@ steep E E′ M M′ h l g = less (2 ^ E) (2 ^ E′) (pow-pos E) (le-trans (le-of
 
 -- storing is monotone
 pub worth-mono : {F G : Frac} {E M E′ M′ : ℕ} → Stores F E M → Stores G E′ M′ → AtMost F G → AtMost (worth E M) (worth E′ M′)
-worth-mono {F} {G} {E} {M} {E′} {M′} s t h = record { cross = mul-le-mul-right unit (⊎-elim level higher (eq-or-lt-of-le (exponent-mono s t h))) }
+worth-mono {F} {G} {E} {M} {E′} {M′} s t h =
+    record { cross = mul-le-mul-right unit (⊎-elim level higher (eq-or-lt-of-le (exponent-mono s t h))) }
   where
     level : E ≡ E′ → (2 * M + 1) * 2 ^ E ≤ (2 * M′ + 1) * 2 ^ E′
     level e =
@@ -101,7 +102,9 @@ pub record IsMantissa (M : ℕ) : Type 0 where
 
 -- the numbers 256E + M go in the order of the worths
 pub code-less : (E M E′ M′ : ℕ) → IsMantissa M → IsMantissa M′ → 256 * E + M < 256 * E′ + M′ → Below (worth E M) (worth E′ M′)
-code-less E M E′ M′ m m′ g = record { cross = mul-lt-mul-of-pos-right (⊎-elim level higher (eq-or-lt-of-le {n = E} {m = E′} (omega arith))) unit-pos }
+code-less E M E′ M′ m m′ g =
+    let upward : E ≤ E′ = omega arith in
+    record { cross = mul-lt-mul-of-pos-right (⊎-elim level higher (eq-or-lt-of-le upward)) unit-pos }
   where
     level : E ≡ E′ → (2 * M + 1) * 2 ^ E < (2 * M′ + 1) * 2 ^ E′
     level e =
@@ -168,13 +171,16 @@ found {F} {G} {E} {M} s e p =
 
 -- every positive number can be scaled, however small: F · 2^k is above 1 where 2^k is above the denominator
 pub exists : (F : Frac) → Positive F → (i : ℕ) × (j : ℕ) × (M : ℕ) × Scales F i j M
-exists F p = (k + 128, 0 + exponentOf G, mantissaOf G, out-of (F .num) (F .den) k 0 (stored G 0 (lit≤ tt) (omega (arith, p .denominator)) above))
+exists F p = (k + 128, 0 + exponentOf G, mantissaOf G, out-of (F .num) (F .den) k 0 (stored G 0 (lit≤ tt) pos above))
   where
     k : ℕ
     k = size (F .den)
 
     G : Frac
     G = F .num * 2 ^ k over F .den * 2 ^ 0
+
+    pos : 0 < G .den
+    pos = omega (arith, p .denominator)
 
     above : Below (twoToMinus 0) G
     above = record { cross = omega (arith, size-lt (F .den), mul-le-mul-right (2 ^ k) (p .numerator)) }
@@ -194,7 +200,8 @@ unfolding ratioOf
 too-large-at s h = large-at _ _ _ _ _ _ s h
 
 -- num / den · 2^exp in units, by bounds on the three; the two tests are on closed numbers and compute
-pub fits-between : {num den exp : ℕ} (n n′ d d′ e e′ : ℕ) → (n ≤ num) × (num ≤ n′) → (d ≤ den) × (den ≤ d′) → (e ≤ exp) × (exp ≤ e′)
+pub fits-between : {num den exp : ℕ} (n n′ d d′ e e′ : ℕ)
+    → (n ≤ num) × (num ≤ n′) → (d ≤ den) × (den ≤ d′) → (e ≤ exp) × (exp ≤ e′)
     → T (ltb (1 * (d′ * 2 ^ 137)) (n * 2 ^ e * 2 ^ 129)) → T (leb (n′ * 2 ^ e′ * 1) (2 ^ 127 * (d * 2 ^ 137)))
     → ratioOf (num * 2 ^ exp over den * unit) ≡ InRange (storedOf (num * 2 ^ exp over den * unit))
 unfolding unit ratioOf

@@ -24,7 +24,7 @@ channelOfValue notANumber = Refuses NotANumber
 
 -- ---- "IEEE values, subnormals included", by the fields of a pattern: sign s, exponent x and fraction t
 
--- x = 0 is zero or a subnormal number, with no leading digit. The value is counted in subnormal steps of 2^-low; `hidden` is the leading digit.
+-- the value in subnormal steps of 2^-low; x = 0 is zero or a subnormal number, any other x a number with the leading digit `hidden`
 abbrev pub magnitude : (hidden low x t : ℕ) → Frac
 magnitude hidden low zero t = t over 2 ^ low
 magnitude hidden low (suc x) t = (hidden + t) * 2 ^ x over 2 ^ low

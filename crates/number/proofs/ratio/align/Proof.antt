@@ -15,4 +15,6 @@ returns c = let t = shifted c in rw (mod-eq-of-lt (t .small)) (refl, t .large, t
 
 pub align-spec : {M : Type 1} → statement M
 align-spec =
-    tie.close (tie.spec (λ c. omega (arith, shifted c .within)) (λ c. omega (arith, shifted c .within)) (λ c. omega (arith, shifted c .within)) returns)
+    tie.close
+    (tie.spec (λ c. omega (arith, shifted c .within)) (λ c. omega (arith, shifted c .within))
+    (λ c. omega (arith, shifted c .within)) returns)

@@ -16,7 +16,8 @@ abbrev μ-loop : tie.MeasureT-loop
 μ-loop rest den q₀ i₀ q i = 7 - i
 
 module _ (rest den i q r : ℕ) (small : q < 2 ^ (i + 1)) (so-far : q * den + r ≡ (den + rest) * 2 ^ i) where
-  next : (q′ r′ : ℕ) → q′ * den + r′ ≡ 2 * (q * den + r) → q′ ≤ 2 * q + 1 → (q′ < 2 ^ (i + 1 + 1)) × (q′ * den + r′ ≡ (den + rest) * 2 ^ (i + 1))
+  next : (q′ r′ : ℕ) → q′ * den + r′ ≡ 2 * (q * den + r) → q′ ≤ 2 * q + 1
+      → (q′ < 2 ^ (i + 1 + 1)) × (q′ * den + r′ ≡ (den + rest) * 2 ^ (i + 1))
   next q′ r′ e l = rw (pow-add 2 (i + 1) 1, pow-add 2 i 1) (omega (arith, pow-add 2 i 1))
 
   -- eight digits are all: q / 256 is the cell
@@ -35,8 +36,11 @@ loop-again c =
     let d = next _ _ (v .i) _ _ (v .inv .2) (v .inv .3) _ _ (c .next-digit .ensures .0) (c .next-digit .ensures .2) in
     (omega arith, c .next-digit .ensures .1, d .0, d .1)
 
-done : (c : tie.After-struct-known Inv-loop μ-loop) → Normal (c .before .before .before .args .den + c .before .before .before .args .rest) (2 * c .before .before .before .args .den) (c .before .before .loop .q .digits)
-done c = let v = c .before .before .loop in last _ _ (v .i) _ _ (v .inv .2) (v .inv .3) (omega arith) (c .before .before .before .pre .0) (v .inv .1)
+done : (c : tie.After-struct-known Inv-loop μ-loop) → let a = c .before .before .before .args in
+    Normal (a .den + a .rest) (2 * a .den) (c .before .before .loop .q .digits)
+done c =
+    let v = c .before .before .loop in
+    last _ _ (v .i) _ _ (v .inv .2) (v .inv .3) (omega arith) (c .before .before .before .pre .0) (v .inv .1)
 
 pub mantissa-spec : {M : Type 1} → statement M
 mantissa-spec =

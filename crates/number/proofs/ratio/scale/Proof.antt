@@ -1,4 +1,4 @@
--- `number::ratio::scale` meets its contract: both numbers have their top bit at one place, so their quotient lies between 1/2 and 2.
+-- `number::ratio::scale` meets its contract: with their top bits at one place, two numbers have a quotient between 1/2 and 2.
 -- Assumes nothing.
 use mathlib.Core.Path.{_≡_, ap, _∙_, subst}
 use Prim.Native.Nat.{ℕ, _+_, _-_, _*_, _^_, _≤_, _<_}
@@ -32,11 +32,13 @@ returns c = aligned _ _ (c .before .before .align .ensures .0) (c .if1 .taken �
 
 returns-2 : tie.Need-returns-2
 returns-2 c =
-    below _ _ (c .before .before .before .before .align .ensures .0) (c .before .before .before .align2 .ensures .0) (omega arith) (omega arith) (omega arith) (c .mantissa .ensures)
+    let d = c .before .before .before in
+    below _ _ (d .before .align .ensures .0) (d .align2 .ensures .0) (omega arith) (omega arith) (omega arith) (c .mantissa .ensures)
 
 returns-3 : tie.Need-returns-3
 returns-3 c =
-    above _ _ (c .before .before .before .before .before .align .ensures .0) (c .before .before .before .before .align2 .ensures .0) (omega arith) (c .mantissa2 .ensures)
+    let d = c .before .before .before .before in
+    above _ _ (d .before .align .ensures .0) (d .align2 .ensures .0) (omega arith) (c .mantissa2 .ensures)
 
 pub scale-spec : {M : Type 1} → statement M
 scale-spec =

@@ -19,7 +19,8 @@ normal hidden low zero t f = absurd (f refl)
 normal hidden low (suc x) t f = let e : x ≡ suc x - 1 = omega arith in ap (λ (z : ℕ). (hidden + t) * 2 ^ z over 2 ^ low) e
 
 -- a finite positive number
-finite : (hidden ones low s x t : ℕ) → (x ≡ ones → ⊥) → s ≡ 0 → channelOfValue (fieldValue hidden ones low s x t) ≡ channelOf (magnitude hidden low x t)
+finite : (hidden ones low s x t : ℕ) → (x ≡ ones → ⊥) → s ≡ 0
+    → channelOfValue (fieldValue hidden ones low s x t) ≡ channelOf (magnitude hidden low x t)
 unfolding fieldValue channelOfValue
 finite hidden ones low s x t f e = simp (ne-eqb _ _ f, eq-eqb _ _ e)
 
@@ -33,11 +34,15 @@ returns-2 c = simp (ne-eqb _ _ (c .before .if1 .left), ne-eqb _ _ (c .if2 .taken
 
 returns-3 : tie.Need-returns-3
 returns-3 c =
-    c .whole-to-channel .ensures ∙ sym (finite _ _ _ _ _ _ (c .before .before .before .if1 .left) (c .before .before .if2 .left) ∙ ap channelOf (subnormal _ _ _ _ (c .before .if3 .taken)))
+    c .whole-to-channel .ensures
+    ∙ sym (finite _ _ _ _ _ _ (c .before .before .before .if1 .left) (c .before .before .if2 .left)
+    ∙ ap channelOf (subnormal _ _ _ _ (c .before .if3 .taken)))
 
 returns-4 : tie.Need-returns-4
 returns-4 c =
-    c .whole-to-channel2 .ensures ∙ sym (finite _ _ _ _ _ _ (c .before .before .before .if1 .left) (c .before .before .if2 .left) ∙ ap channelOf (normal _ _ _ _ (c .before .if3 .left)))
+    c .whole-to-channel2 .ensures
+    ∙ sym (finite _ _ _ _ _ _ (c .before .before .before .if1 .left) (c .before .before .if2 .left)
+    ∙ ap channelOf (normal _ _ _ _ (c .before .if3 .left)))
 
 pub float-to-channel-spec : {M : Type 1} → statement M
 float-to-channel-spec =

@@ -15,13 +15,9 @@ use Rattle.number.proofs.whole.shift_up.Tie as tie
 -- the first eight digits of m * 2^s / 2^63 stand from bit 55 on
 scaled : (m s M : ℕ) → AboveHalf m s → M ≡ min 255 (m * 2 ^ s % 2 ^ 64 / 2 ^ 55) → Scales (m over 1) s 63 M
 scaled m s M h e =
-    record {
-      normal = record {
-        above-half = h .above;
-        at-most-one = h .at-most;
-        digits = omega (arith, e, mul-div-mul-left {m = 256} (m * 2 ^ s) (2 ^ 55) (lit< tt), mod-eq-of-lt (lt-of-le-of-lt (h .at-most) (lit< {n = 2 ^ 64} tt)));
-      };
-    }
+    let whole : m * 2 ^ s % 2 ^ 64 ≡ m * 2 ^ s = mod-eq-of-lt (lt-of-le-of-lt (h .at-most) (lit< tt)) in
+    let quotient : 256 * (m * 2 ^ s) / 2 ^ 63 ≡ m * 2 ^ s / 2 ^ 55 = mul-div-mul-left {m = 256} (m * 2 ^ s) (2 ^ 55) (lit< tt) in
+    record { normal = record { above-half = h .above; at-most-one = h .at-most; digits = omega arith } }
 
 shifted : (c : tie.Start) → AboveHalf (c .args .m) (leadingZeros 64 (2 * c .args .m - 1))
 shifted c = halved (c .args .m) (c .pre .0) (omega arith)
@@ -29,5 +25,6 @@ shifted c = halved (c .args .m) (c .pre .0) (omega arith)
 pub shift-up-spec : {M : Type 1} → statement M
 shift-up-spec =
     tie.close
-    (tie.spec (λ c. search needs) (λ c. search needs) (λ c. omega (arith, shifted c .within)) (λ c. omega (arith, shifted c .within)) (λ c. omega (arith, shifted c .within)) (λ c. search needs)
+    (tie.spec (λ c. search needs) (λ c. search needs) (λ c. omega (arith, shifted c .within)) (λ c. omega (arith, shifted c .within))
+    (λ c. omega (arith, shifted c .within)) (λ c. search needs)
     (λ c. scaled _ _ _ (shifted (c .before)) (omega arith)) (λ c. scaled _ _ _ (shifted (c .before)) (omega arith)))

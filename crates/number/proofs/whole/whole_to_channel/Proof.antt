@@ -1,6 +1,6 @@
 -- `number::whole::whole_to_channel` meets its contract. Assumes nothing.
 use mathlib.Core.Path.{_≡_, sym, subst}
-use Prim.Native.Nat.{ℕ, _+_, _*_, _^_}
+use Prim.Native.Nat.{ℕ, _+_, _*_, _^_, _≤_}
 use native.Mathlib.Omega.{arith}
 use borrow.Author.Needs.{needs}
 use Rattle.number.specs.Fractions.{_over_}
@@ -10,12 +10,15 @@ use Rattle.number.proofs.Channels.{black, black-at, bright-at, lit-at}
 use Rattle.number.proofs.whole.whole_to_channel.Statement.{statement}
 use Rattle.number.proofs.whole.whole_to_channel.Tie as tie
 
+nothing : (m p q d : ℕ) → m ≡ 0 → m * p * q ≤ d
+nothing m p q d e = subst (λ (z : ℕ). z * p * q ≤ d) (sym e) (omega arith)
+
 -- with the powers of two
 moved : {m s M : ℕ} (a b : ℕ) → Scales (m over 1) s 63 M → Scales (m * 2 ^ a over 2 ^ b) (b + s) (a + 63) M
 moved a b t = whole-into a b (rescale t (omega arith))
 
 returns : tie.Need-returns
-returns c = sym (black _ (record { cross = omega (arith, subst (λ (m : ℕ). m * 2 ^ c .before .args .up ≡ 0) (sym (c .if1 .taken)) (omega arith)) }))
+returns c = sym (black _ (record { cross = nothing _ _ _ _ (c .if1 .taken) }))
 
 returns-2 : tie.Need-returns-2
 returns-2 c = sym (black-at (moved _ _ (c .before .before .shift-up .ensures)) (c .if2 .taken))
