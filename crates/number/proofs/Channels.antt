@@ -10,14 +10,13 @@ use lib.Dec.{leb, eqb, lit≤}
 use borrow.Author.Tests.{le-leb, ne-eqb, leb-true, eqb-true}
 use lib.Pow.{pow-pos}
 use Rattle.number.specs.Fractions.{Frac, twoToMinus, twoTo, AtMost, Below}
-use Rattle.number.specs.Storing.{unit, Scales, Stores, exponentOf, mantissaOf, storedOf}
+use Rattle.number.specs.Storing.{leastMantissa, unit, Scales, Stores, exponentOf, mantissaOf, storedOf}
 use Rattle.number.specs.Channels.{
   blackPower,
   brightPower,
   channelOf,
   leastExponent,
   greatestExponent,
-  leastMantissa,
   IsLit,
   IsChannel,
   worthOf,
@@ -29,8 +28,8 @@ use Rattle.number.specs.declared.channel.Channel.the-variants.{Black, Li
 use Rattle.number.specs.declared.channel.Decoded.the-variants.{Holds, Refuses}
 use Rattle.number.specs.declared.ratio.Stored.{Stored}
 use Rattle.refusal.specs.declared.Refusal.the-variants.{TooBright, InvalidChannel}
-use Rattle.number.proofs.Scaling.{denominator-pos, rescale, exponent-above-down, exponent-at-most-up}
-use Rattle.number.proofs.Storing.{unit-pos, found, stored, promised, IsMantissa, code-order}
+use Rattle.number.proofs.Scaling.{denominator-pos, rescale, above-down, at-most-up, promised}
+use Rattle.number.proofs.Storing.{unit-pos, stored-as, stored, code-order}
 use Rattle.number.proofs.Ranges.{small, within, large, small-at, within-at, large-at}
 
 -- ---- what F becomes
@@ -49,7 +48,7 @@ module _ {F : Frac} {i j M : ℕ} (s : Scales F i j M) where
   unfolding channelOf
   lit-at g h =
       let stores : storedOf F ≡ record { exponent = j + 128 - i; mantissa = M } =
-      found (rescale s (omega arith)) (record { cross = refl }) (denominator-pos s) in
+      stored-as (rescale s (omega arith)) (record { cross = refl }) (denominator-pos s) in
       within-at _ _ _ _ _ _ s (omega arith) (omega arith) ∙ ap (λ (r : Stored). Holds (Lit (r .exponent) (r .mantissa))) stores
 
   pub bright-at : i + greatestExponent < j + 128 → channelOf F ≡ Refuses TooBright
@@ -59,12 +58,10 @@ module _ {F : Frac} {i j M : ℕ} (s : Scales F i j M) where
 -- "So lit channels have E 72 to 184."
 lit-valid : {F : Frac} {E M : ℕ} → Stores F E M → Below (twoToMinus blackPower) F → AtMost F (twoTo brightPower) → IsLit E M
 lit-valid s a b =
-    let p = promised s in
     record {
-      exponent-least = omega (arith, exponent-above-down s blackPower a);
-      exponent-most = exponent-at-most-up s brightPower b;
-      mantissa-least = p .least;
-      mantissa-most = p .most;
+      least = omega (arith, above-down s blackPower .1 a);
+      most = at-most-up s brightPower .1 b;
+      mantissa = promised s .mantissa;
     }
 
 -- every channel that a number becomes is one
@@ -100,9 +97,9 @@ code-channel (Lit E M) t =
       ne-eqb (256 * E + M) 0 (λ e. omega arith),
       high,
       low,
-      le-leb leastExponent E (t .exponent-least),
-      le-leb E greatestExponent (t .exponent-most),
-      le-leb leastMantissa M (t .mantissa-least),
+      le-leb leastExponent E (t .least),
+      le-leb E greatestExponent (t .most),
+      le-leb leastMantissa M (t .mantissa .least),
     )
 
 -- a channel and the number that it came from
@@ -130,10 +127,9 @@ channel-code n c h = go (eqb n 0) (leb leastExponent E) (leb E greatestExponent)
         (record {
           code = omega arith;
           valid = record {
-            exponent-least = leb-true _ _ a₁;
-            exponent-most = leb-true _ _ b₁;
-            mantissa-least = leb-true _ _ d₁;
-            mantissa-most = omega arith;
+            least = leb-true _ _ a₁;
+            most = leb-true _ _ b₁;
+            mantissa = record { least = leb-true _ _ d₁; most = omega arith };
           };
         })
     go false true true false z₁ a₁ b₁ d₁ q = let z : _≡_ {A = ℕ} 0 1 = cc in absurd (omega arith)
@@ -145,9 +141,6 @@ pub channel-order : (c c′ : Channel) → IsChannel c → IsChannel c′ → (c
 channel-order Black Black t t′ = (λ h. absurd (omega arith), λ h. absurd (omega (arith, h .cross)))
 channel-order Black (Lit E M) t t′ =
     let positive : 0 < (2 * M + 1) * 2 ^ E * unit = mul-pos (mul-pos (omega arith) (pow-pos E)) unit-pos in
-    (λ h. record { cross = omega arith }, λ h. omega (arith, t′ .mantissa-least))
+    (λ h. record { cross = omega arith }, λ h. omega (arith, t′ .mantissa .least))
 channel-order (Lit E M) Black t t′ = (λ h. absurd (omega arith), λ h. absurd (omega (arith, h .cross)))
-channel-order (Lit E M) (Lit E′ M′) t t′ = code-order E M E′ M′ (mantissa t) (mantissa t′)
-  where
-    mantissa : {E M : ℕ} → IsLit E M → IsMantissa M
-    mantissa u = record { least = u .mantissa-least; most = u .mantissa-most }
+channel-order (Lit E M) (Lit E′ M′) t t′ = code-order E M E′ M′ (t .mantissa) (t′ .mantissa)

@@ -1,5 +1,5 @@
 pub mod Laws
-pub mod Normals
+pub mod Normalised
 pub mod Scaling
 pub mod Ranges
 pub mod Storing

@@ -27,10 +27,10 @@ module _ {A : Type 0} (k l : ℕ) (x : Frac) (a b c : A) where
 
   module _ {i j M : ℕ} (s : Scales x i j M) where
     pub small-at : j + k ≤ i → byRange k l x a b c ≡ a
-    small-at h = small (at-most-down s k h)
+    small-at h = small (at-most-down s k .0 h)
 
     pub within-at : i < j + k → j ≤ i + l → byRange k l x a b c ≡ b
-    within-at g h = within (above-down s k g) (at-most-up s l h)
+    within-at g h = within (above-down s k .0 g) (at-most-up s l .0 h)
 
     pub large-at : i + l < j → byRange k l x a b c ≡ c
-    large-at h = large (above-up s l h)
+    large-at h = large (above-up s l .0 h)

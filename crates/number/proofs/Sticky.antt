@@ -17,17 +17,17 @@ use native.Mathlib.Nat.{
 use native.Mathlib.Omega.{arith}
 use lib.Pow.{pow-pos, pow-add}
 use Rattle.number.specs.Fractions.{Frac, _over_, Below}
-use Rattle.number.specs.Storing.{Normal, Scales}
-use Rattle.number.proofs.Normals.{mantissa-most, floor, ceiling, cell}
-use Rattle.number.proofs.Scaling.{same, at-most-up}
+use Rattle.number.specs.Storing.{Normalised, Scales}
+use Rattle.number.proofs.Normalised.{mantissa, floor, ceiling, cell}
+use Rattle.number.proofs.Scaling.{scales-equal, at-most-up}
 
 -- F lies strictly between the neighbours a / b and (a + 1) / b
-pub record Between (a b : ℕ) (F : Frac) : Type 0 where
-  pub lower : Below (a over b) F
-  pub upper : Below F (a + 1 over b)
+record Between (a b : ℕ) (F : Frac) : Type 0 where
+  lower : Below (a over b) F
+  upper : Below F (a + 1 over b)
 
 -- between the same neighbours, for a b that is a multiple of 256, the mantissa is the same
-module _ {x u M : ℕ} (x′ u′ a g : ℕ) (s : Normal x u M)
+module _ {x u M : ℕ} (x′ u′ a g : ℕ) (s : Normalised x u M)
     (h : Between a (256 * g) (x over u)) (h′ : Between a (256 * g) (x′ over u′)) where
   above : (c : ℕ) → c * u ≤ x * (256 * g) → c * u′ < x′ * (256 * g)
   above c l =
@@ -39,24 +39,24 @@ module _ {x u M : ℕ} (x′ u′ a g : ℕ) (s : Normal x u M)
       let least : a < c = lt-of-mul-lt-mul-right u (lt-of-lt-of-le (h .lower .cross) l) in
       lt-of-lt-of-le (h′ .upper .cross) (mul-le-mul-right u′ (omega arith))
 
-  neighbours : Normal x′ u′ M
+  neighbours : Normalised x′ u′ M
   neighbours =
       cell
       (lt-of-mul-lt-mul-right (128 * g) (omega (arith, above (128 * g) (omega (arith, mul-le-mul-right (128 * g) (s .above-half))))))
-      (mantissa-most s)
+      (mantissa s .most)
       (le-of-lt (lt-of-mul-lt-mul-right g (omega (arith, above (M * g) (omega (arith, mul-le-mul-right g (floor s)))))))
       (lt-of-mul-lt-mul-right g (omega (arith, below ((M + 1) * g) (omega (arith, mul-le-mul-right g (ceiling s))))))
 
 -- two numbers between the same neighbours, of at least 128, have the same exponent and mantissa
-pub sticky : {F G : Frac} {i j M a b : ℕ} → Scales F i j M → 128 * b ≤ a → Between a b F → Between a b G → Scales G i j M
+sticky : {F G : Frac} {i j M a b : ℕ} → Scales F i j M → 128 * b ≤ a → Between a b F → Between a b G → Scales G i j M
 sticky {F} {G} {i} {j} {M} {a} {b} s l h h′ =
-    record { normal = neighbours (G .num * 2 ^ i) (G .den * 2 ^ j) a (b * 2 ^ k) (s .normal) (widen h) (widen h′) }
+    record { normalised = neighbours (G .num * 2 ^ i) (G .den * 2 ^ j) a (b * 2 ^ k) (s .normalised) (widen h) (widen h′) }
   where
     k : ℕ
     k = j - (i + 8)
 
     large : i + 8 ≤ j
-    large = omega (arith, lt-of-not-le (λ (g : j ≤ i + 7). clash (at-most-up s 7 g .cross)))
+    large = omega (arith, lt-of-not-le (λ (g : j ≤ i + 7). clash (at-most-up s 7 .0 g .cross)))
       where
         clash : F .num * 1 ≤ 2 ^ 7 * F .den → ⊥
         clash g = omega (arith, h .lower .cross, mul-le-mul-right b g, mul-le-mul-right (F .den) l)
@@ -79,10 +79,10 @@ sticky {F} {G} {i} {j} {M} {a} {b} s l h h′ =
 
 -- The number (a · p + r) / (b · p), with r below p, may be cut to a / b with one binary digit more, the sticky bit, which says whether
 -- r is not 0: what is stored is the same.
-pub cut : (a r p b : ℕ) {i j M : ℕ} → 128 * b ≤ a → 0 < b → r < p
+pub sticky-bit : (a r p b : ℕ) {i j M : ℕ} → 128 * b ≤ a → 0 < b → r < p
     → Scales (2 * a + min 1 r over 2 * b) i j M → Scales (a * p + r over b * p) i j M
-cut a r p b l o q s =
-    ⊎-elim (λ e. same s (record { cross = exact e }) (mul-pos o (omega arith))) (λ h. sticky s l (half-way h) (inside h))
+sticky-bit a r p b l o q s =
+    ⊎-elim (λ e. scales-equal s (record { cross = exact e }) (mul-pos o (omega arith))) (λ h. sticky s l (half-way h) (inside h))
     (eq-zero-or-pos r)
   where
     exact : r ≡ 0 → (2 * a + min 1 r) * (b * p) ≡ (a * p + r) * (2 * b)

@@ -7,8 +7,6 @@ use native.Mathlib.Nat.{
   eq-or-lt-of-le,
   le-div-iff-mul-le,
   le-mul-of-pos-right,
-  le-of-eq,
-  le-of-lt,
   le-refl,
   le-trans,
   lt-irrefl,
@@ -24,23 +22,34 @@ use native.Mathlib.Nat.{
 }
 use native.Mathlib.Omega.{arith}
 use lib.Dec.{T, leb, ltb, leb→le, ltb→lt, lit<, lit≤}
+use borrow.Author.Tests.{le-ltb}
+use lib.IntN.{pos}
 use lib.Ieee.{size}
 use lib.Ieee.Digits.{size-lt, size-reaches}
 use lib.Pow.{pow-pos, pow-mono}
-use Rattle.number.specs.Fractions.{Frac, _over_, twoToMinus, Positive, Equal, AtMost, Below}
-use Rattle.number.specs.Storing.{unit, worth, Normal, Scales, Stores, Promised, exponentOf, mantissaOf, storedOf, ratioOf}
+use Rattle.number.specs.Fractions.{Frac, _over_, twoToMinus, Positive, Equal, Below, Near}
+use Rattle.number.specs.Storing.{
+  exponentAt,
+  Scales,
+  scaledWorth,
+  IsMantissa,
+  Stores,
+  unit,
+  worth,
+  exponentOf,
+  mantissaOf,
+  storedOf,
+  ratioOf,
+}
 use Rattle.number.specs.declared.ratio.StoredRatio.the-variants.{InRange, OutOfRange}
-use Rattle.number.proofs.Normals.{mantissa-least, mantissa-most, floor, ceiling}
 use Rattle.number.proofs.Scaling.{
   denominator-pos,
-  same,
-  rescale,
-  into,
-  out-of,
-  exponent-mono,
-  same-exponent-mono,
-  unique-exponent,
+  scales-equal,
+  powers-out,
+  steep,
+  unique-powers,
   unique-mantissa,
+  promised,
 }
 use Rattle.number.proofs.Ranges.{within, small-at, within-at, large-at}
 
@@ -48,70 +57,27 @@ pub unit-pos : 0 < unit
 unfolding unit
 unit-pos = lit< tt
 
--- ---- what storing promises
+-- ---- an exponent that is not negative, and worths in units
 
--- M + 1/2 is the middle of the 256th part in which x / u lies
-error : {x u M : ℕ} → Normal x u M → (255 * (2 * x) < (2 * M + 1) * u) × ((2 * M + 1) * u < 257 * (2 * x))
-error s = (omega (arith, ceiling s), omega (arith, floor s))
+pub exponent-natural : (E : ℕ) → exponentAt 128 E ≡ pos E
+exponent-natural E = rw (le-ltb (128 + E) 128 (omega arith)) (ap pos (omega arith))
 
-pub promised : {F : Frac} {E M : ℕ} → Stores F E M → Promised F E M
+pub worth-scaled : (E M : ℕ) → worth E M ≡ scaledWorth 128 E M
 unfolding unit
-promised {F} {E} {M} s =
-    let near = widen (F .num) (F .den) (2 * M + 1) (2 ^ E) (2 ^ 128) (error (s .normal)) in
-    record { least = mantissa-least (s .normal); most = mantissa-most (s .normal); near = record { low = near .0; high = near .1 } }
-  where
-    widen : (n d m q B : ℕ) → (255 * (2 * (n * B)) < m * (d * q)) × (m * (d * q) < 257 * (2 * (n * B)))
-        → (255 * (n * (B * 512)) < 256 * (m * q * d)) × (256 * (m * q * d) < 257 * (n * (B * 512)))
-    widen n d m q B h = omega arith
+worth-scaled E M = refl
 
--- a factor 2^k moves only the exponent
-pub shift : {n d E M : ℕ} (k : ℕ) → Stores (n over d) E M → Stores (n * 2 ^ k over d) (E + k) M
-shift {n} {d} k s = same (into k 0 (rescale s (omega arith))) (record { cross = omega arith }) (denominator-pos s)
-
--- a worth is stored as itself
-pub idempotent : (E M : ℕ) → 128 ≤ M → M ≤ 255 → Stores (worth E M) E M
-unfolding unit
-idempotent E M l h = into {n = 2 * M + 1} {d = 1} E 137 (rescale {i = 0} {j = 9} (record { normal = omega arith }) (omega arith))
-
--- ---- the order of worths
-
--- a larger exponent has the larger worth, whatever the mantissas
-steep : (E E′ M M′ : ℕ) → M ≤ 255 → 128 ≤ M′ → E < E′ → (2 * M + 1) * 2 ^ E < (2 * M′ + 1) * 2 ^ E′
-steep E E′ M M′ h l g = less (2 ^ E) (2 ^ E′) (pow-pos E) (le-trans (le-of-eq (sym (pow-succ' 2 E))) (pow-mono g))
-  where
-    less : (p q : ℕ) → 0 < p → 2 * p ≤ q → (2 * M + 1) * p < (2 * M′ + 1) * q
-    less p q o k = omega (arith, mul-le-mul-right p h, mul-le-mul-right q l)
-
--- storing is monotone
-pub worth-mono : {F G : Frac} {E M E′ M′ : ℕ} → Stores F E M → Stores G E′ M′ → AtMost F G → AtMost (worth E M) (worth E′ M′)
-worth-mono {F} {G} {E} {M} {E′} {M′} s t h =
-    record { cross = mul-le-mul-right unit (⊎-elim level higher (eq-or-lt-of-le (exponent-mono s t h))) }
-  where
-    level : E ≡ E′ → (2 * M + 1) * 2 ^ E ≤ (2 * M′ + 1) * 2 ^ E′
-    level e =
-        subst (λ (z : ℕ). (2 * M + 1) * 2 ^ E ≤ (2 * M′ + 1) * 2 ^ z) e
-        (mul-le-mul-right (2 ^ E) (omega (arith, same-exponent-mono s t h e)))
-
-    higher : E < E′ → (2 * M + 1) * 2 ^ E ≤ (2 * M′ + 1) * 2 ^ E′
-    higher l = le-of-lt (steep E E′ M M′ (mantissa-most (s .normal)) (mantissa-least (t .normal)) l)
-
--- a mantissa as storing makes it
-pub record IsMantissa (M : ℕ) : Type 0 where
-  pub least : 128 ≤ M
-  pub most : M ≤ 255
+pub near : {F : Frac} {E M : ℕ} → Stores F E M → Near F (worth E M)
+near {F} {E} {M} s = subst (Near F) (sym (worth-scaled E M)) (promised s .near)
 
 -- the numbers 256E + M go in the order of the worths
-pub code-less : (E M E′ M′ : ℕ) → IsMantissa M → IsMantissa M′ → 256 * E + M < 256 * E′ + M′ → Below (worth E M) (worth E′ M′)
+code-less : (E M E′ M′ : ℕ) → IsMantissa M → IsMantissa M′ → 256 * E + M < 256 * E′ + M′ → Below (worth E M) (worth E′ M′)
 code-less E M E′ M′ m m′ g =
     let upward : E ≤ E′ = omega arith in
-    record { cross = mul-lt-mul-of-pos-right (⊎-elim level higher (eq-or-lt-of-le upward)) unit-pos }
+    record { cross = mul-lt-mul-of-pos-right (⊎-elim level (steep E E′ M M′ m m′) (eq-or-lt-of-le upward)) unit-pos }
   where
     level : E ≡ E′ → (2 * M + 1) * 2 ^ E < (2 * M′ + 1) * 2 ^ E′
     level e =
         subst (λ (z : ℕ). (2 * M + 1) * 2 ^ E < (2 * M′ + 1) * 2 ^ z) e (mul-lt-mul-of-pos-right (omega arith) (pow-pos E))
-
-    higher : E < E′ → (2 * M + 1) * 2 ^ E < (2 * M′ + 1) * 2 ^ E′
-    higher l = steep E E′ M M′ (m .most) (m′ .least) l
 
 pub code-order : (E M E′ M′ : ℕ) → IsMantissa M → IsMantissa M′ → (256 * E + M < 256 * E′ + M′) ↔ Below (worth E M) (worth E′ M′)
 code-order E M E′ M′ m m′ = (code-less E M E′ M′ m m′, λ h. lt-of-not-le (λ g. ⊎-elim (equal h) (greater h) (eq-or-lt-of-le g)))
@@ -138,7 +104,7 @@ unfolding exponentOf mantissaOf
 stored F k l p a =
     let q = (F .num * 2 ^ 128 - 1) / F .den in
     record {
-      normal = record {
+      normalised = record {
         above-half = least (F .num * 2 ^ 128) (F .den) (size q) p
             (double (2 ^ 128) (lt-of-lt-of-le (a .cross) (mul-le-mul-left (F .num) (pow-mono l)))) (size-reaches q);
         at-most-one = upper (F .num * 2 ^ 128) (2 ^ size q) (div-lt-iff-lt-mul p .0 (size-lt q));
@@ -152,26 +118,26 @@ stored F k l p a =
     upper : (N b : ℕ) → N - 1 < b * F .den → N ≤ F .den * b
     upper N b h = omega arith
 
--- whoever stores F has found these of every fraction equal to it
-pub found : {F G : Frac} {E M : ℕ} → Stores F E M → Equal F G → 0 < G .den → storedOf G ≡ record { exponent = E; mantissa = M }
-found {F} {G} {E} {M} s e p =
-    ap₂ (λ (x m : ℕ). record { exponent = x; mantissa = m }) (omega (arith, unique-exponent u t itself)) (unique-mantissa u t itself)
+-- whoever stores F has what the functions give for every fraction equal to it
+pub stored-as : {F G : Frac} {E M : ℕ} → Stores F E M → Equal F G → 0 < G .den → storedOf G ≡ record { exponent = E; mantissa = M }
+stored-as {F} {G} {E} {M} s e p =
+    ap₂ (λ (x m : ℕ). record { exponent = x; mantissa = m }) (omega (arith, unique-powers u t itself)) (unique-mantissa u t itself)
   where
     itself : Equal G G
     itself = record { cross = refl }
 
     t : Stores G E M
-    t = same s e p
+    t = scales-equal s e p
 
     halve : (B q : ℕ) → 0 < q → G .den * q < 2 * (G .num * B) → 1 * G .den < G .num * (B * 2)
     halve B q o h = omega (arith, le-mul-of-pos-right (G .den) o)
 
     u : Stores G (exponentOf G) (mantissaOf G)
-    u = stored G 129 (le-refl 129) p (record { cross = halve (2 ^ 128) (2 ^ E) (pow-pos E) (t .normal .above-half) })
+    u = stored G 129 (le-refl 129) p (record { cross = halve (2 ^ 128) (2 ^ E) (pow-pos E) (t .normalised .above-half) })
 
 -- every positive number can be scaled, however small: F · 2^k is above 1 where 2^k is above the denominator
-pub exists : (F : Frac) → Positive F → (i : ℕ) × (j : ℕ) × (M : ℕ) × Scales F i j M
-exists F p = (k + 128, 0 + exponentOf G, mantissaOf G, out-of (F .num) (F .den) k 0 (stored G 0 (lit≤ tt) pos above))
+pub scales-exist : (F : Frac) → Positive F → (i : ℕ) × (j : ℕ) × (M : ℕ) × Scales F i j M
+scales-exist F p = (k + 128, 0 + exponentOf G, mantissaOf G, powers-out (F .num) (F .den) k 0 (stored G 0 (lit≤ tt) den-pos above))
   where
     k : ℕ
     k = size (F .den)
@@ -179,8 +145,8 @@ exists F p = (k + 128, 0 + exponentOf G, mantissaOf G, out-of (F .num) (F .den) 
     G : Frac
     G = F .num * 2 ^ k over F .den * 2 ^ 0
 
-    pos : 0 < G .den
-    pos = omega (arith, p .denominator)
+    den-pos : 0 < G .den
+    den-pos = omega (arith, p .denominator)
 
     above : Below (twoToMinus 0) G
     above = record { cross = omega (arith, size-lt (F .den), mul-le-mul-right (2 ^ k) (p .numerator)) }
@@ -193,7 +159,7 @@ too-small-at s h = small-at _ _ _ _ _ _ s h
 
 pub fits-at : {F : Frac} {E M : ℕ} → Stores F E M → E ≤ 255 → ratioOf F ≡ InRange (record { exponent = E; mantissa = M })
 unfolding ratioOf
-fits-at s h = within-at _ _ _ _ _ _ s (omega arith) h ∙ ap InRange (found s (record { cross = refl }) (denominator-pos s))
+fits-at s h = within-at _ _ _ _ _ _ s (omega arith) h ∙ ap InRange (stored-as s (record { cross = refl }) (denominator-pos s))
 
 pub too-large-at : {F : Frac} {E M : ℕ} → Stores F E M → 255 < E → ratioOf F ≡ OutOfRange
 unfolding ratioOf

@@ -3,7 +3,7 @@ use mathlib.Core.Bool.{cond, _&&_}
 use Prim.Native.Nat.{ℕ, _+_, _*_, _/_, _%_, _≤_}
 use lib.Dec.{leb, eqb}
 use Rattle.number.specs.Fractions.{Frac, _over_, byRange}
-use Rattle.number.specs.Storing.{unit, worth, exponentOf, mantissaOf}
+use Rattle.number.specs.Storing.{leastMantissa, IsMantissa, unit, worth, exponentOf, mantissaOf}
 use Rattle.number.specs.declared.channel.Channel.{Channel}
 use Rattle.number.specs.declared.channel.Channel.the-variants.{Black, Lit}
 use Rattle.number.specs.declared.channel.Decoded.{Decoded}
@@ -21,24 +21,19 @@ brightPower = 56
 unfoldable pub channelOf : Frac → Decoded
 channelOf F = byRange blackPower brightPower F (Holds Black) (Holds (Lit (exponentOf F) (mantissaOf F))) (Refuses TooBright)
 
--- "E 72..184 with M 128..255"
+-- "So lit channels have E 72 to 184."
 abbrev pub leastExponent : ℕ
 leastExponent = 72
 
 abbrev pub greatestExponent : ℕ
 greatestExponent = 184
 
-abbrev pub leastMantissa : ℕ
-leastMantissa = 128
-
--- such an exponent and mantissa; a mantissa is a byte
 pub record IsLit (E M : ℕ) : Type 0 where
-  pub exponent-least : leastExponent ≤ E
-  pub exponent-most : E ≤ greatestExponent
-  pub mantissa-least : leastMantissa ≤ M
-  pub mantissa-most : M ≤ 255
+  pub least : leastExponent ≤ E
+  pub most : E ≤ greatestExponent
+  pub mantissa : IsMantissa M
 
--- the channels that there are
+-- the channels that there are: "(0,0)" and "E 72..184 with M 128..255"
 abbrev pub IsChannel : Channel → Type 0
 IsChannel Black = Unit
 IsChannel (Lit E M) = IsLit E M
@@ -54,7 +49,7 @@ abbrev pub codeOf : Channel → ℕ
 codeOf Black = 0
 codeOf (Lit E M) = 256 * E + M
 
--- refused: "neither (0,0) nor E 72..184 with M 128..255"
+-- refused where it is "neither (0,0) nor E 72..184 with M 128..255"
 unfoldable pub channelOfCode : ℕ → Decoded
 channelOfCode n =
     cond (eqb n 0) (Holds Black)

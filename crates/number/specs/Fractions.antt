@@ -1,4 +1,4 @@
--- Fractions of two whole numbers, never reduced and compared by cross products. Those that occur have a positive denominator.
+-- Fractions of two whole numbers, never reduced and compared by cross products. A law that divides asks for a positive denominator.
 -- Assumes nothing.
 use mathlib.Core.Path.{_≡_}
 use mathlib.Core.Bool.{Bool, cond}

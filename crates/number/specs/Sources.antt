@@ -14,25 +14,25 @@ use Rattle.refusal.specs.declared.Refusal.the-variants.{NotANumber}
 pub data Value : Type 0 where
   plus : Frac → Value
   minus : Frac → Value
-  notANumber : Value
+  notFinite : Value
 
 -- "Zero and finite negative values are black"; "NaN or infinity, either sign" is refused
 unfoldable pub channelOfValue : Value → Decoded
 channelOfValue (plus x) = channelOf x
 channelOfValue (minus x) = Holds Black
-channelOfValue notANumber = Refuses NotANumber
+channelOfValue notFinite = Refuses NotANumber
 
 -- ---- "IEEE values, subnormals included", by the fields of a pattern: sign s, exponent x and fraction t
 
--- the value in subnormal steps of 2^-low; x = 0 is zero or a subnormal number, any other x a number with the leading digit `hidden`
+-- The value counts steps of 2^-low. x = 0 is zero or a subnormal number; at any other x the digit of weight `hidden` leads the fraction.
 abbrev pub magnitude : (hidden low x t : ℕ) → Frac
 magnitude hidden low zero t = t over 2 ^ low
 magnitude hidden low (suc x) t = (hidden + t) * 2 ^ x over 2 ^ low
 
--- an exponent of ones alone is a NaN or an infinity
+-- the greatest exponent, all ones, is a NaN or an infinity
 unfoldable pub fieldValue : (hidden ones low s x t : ℕ) → Value
 fieldValue hidden ones low s x t =
-    cond (eqb x ones) notANumber (cond (eqb s 0) (plus (magnitude hidden low x t)) (minus (magnitude hidden low x t)))
+    cond (eqb x ones) notFinite (cond (eqb s 0) (plus (magnitude hidden low x t)) (minus (magnitude hidden low x t)))
 
 -- the pattern b of a format with w exponent bits and p fraction bits, whose exponents have the bias 2^(w-1) - 1
 abbrev pub floatValue : (w p b : ℕ) → Value

@@ -2,7 +2,7 @@
 ghost use mathlib.Core.Path.{_≡_};
 ghost use Prim.Native.Nat.{_+_, _*_, _^_, _≤_, _<_};
 ghost use Rattle.number.specs.Fractions.{_over_};
-ghost use Rattle.number.specs.Storing.{unit, Normal, Scales, ratioOf};
+ghost use Rattle.number.specs.Storing.{unit, Normalised, Scales, ratioOf};
 
 // A stored number: exponent E and mantissa M, worth (M + 1/2) * 2^(E - 136).
 pub struct Stored {
@@ -16,7 +16,7 @@ pub enum StoredRatio {
     OutOfRange,
 }
 
-// The shifts that bring a ratio above 1/2 and at most to 1: times 2^up, by 2^down. Its mantissa.
+// The powers of two that bring a ratio above 1/2 and at most to 1, times 2^up and divided by 2^down, with its mantissa.
 struct Scaled {
     up: u8,
     down: u8,
@@ -68,7 +68,7 @@ fn next_digit(q: Quotient, den: u64) -> Quotient
 // The mantissa of (den + rest) / (2 * den): a leading 1, and seven digits of rest / den.
 fn mantissa(rest: u64, den: u64) -> u8
     requires { ⌜ (0 < rest) × (rest < den) ⌝ }
-    ensures { λ r. ⌜ Normal (den + rest) (2 * den) r ⌝ }
+    ensures { λ r. ⌜ Normalised (den + rest) (2 * den) r ⌝ }
 {
     let mut q = Quotient {
         digits: 1,

@@ -1,14 +1,14 @@
 // The numbers of a source picture as channels: IEEE halves and singles, and RGBE bytes. Any bits are taken.
 ghost use mathlib.Core.Path.{_≡_};
-ghost use Prim.Native.Nat.{_+_, _^_, _≤_, _<_};
+ghost use Prim.Native.Nat.{_+_, _^_, _<_};
 ghost use Rattle.number.specs.Sources.{channelOfValue, fieldValue, halfValue, singleValue, rgbeValue};
 use crate::channel::Channel;
 use crate::channel::Decoded;
 use crate::whole::whole_to_channel;
 use refusal::Refusal;
 
-// An IEEE number by its sign, exponent and fraction. Its format is given by the leading digit, the exponent of ones alone, and the
-// subnormal step 2^-low.
+// An IEEE number by its sign, exponent and fraction. Its format is given by the weight of the hidden digit, the exponent of all ones, and
+// the subnormal step 2^-low.
 fn float_to_channel(
     hidden: u32,
     ones: u16,
@@ -17,7 +17,7 @@ fn float_to_channel(
     exponent: u16,
     fraction: u32,
 ) -> Decoded
-    requires { ⌜ (hidden + fraction < 2 ^ 32) ⌝ }
+    requires { ⌜ hidden + fraction < 2 ^ 32 ⌝ }
     ensures { λ r. ⌜ r ≡ channelOfValue (fieldValue hidden ones low sign exponent fraction) ⌝ }
 {
     if exponent == ones {

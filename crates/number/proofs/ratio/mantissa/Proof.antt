@@ -4,8 +4,8 @@ use Prim.Native.Nat.{ℕ, _+_, _-_, _*_, _^_, _≤_, _<_}
 use native.Mathlib.Omega.{arith}
 use borrow.Author.Needs.{needs}
 use lib.Pow.{pow-add, pow-mono}
-use Rattle.number.specs.Storing.{Normal}
-use Rattle.number.proofs.Normals.{cell, mantissa-most}
+use Rattle.number.specs.Storing.{Normalised}
+use Rattle.number.proofs.Normalised.{cell, mantissa}
 use Rattle.number.proofs.ratio.mantissa.Statement.{statement}
 use Rattle.number.proofs.ratio.mantissa.Tie as tie
 
@@ -21,7 +21,7 @@ module _ (rest den i q r : ℕ) (small : q < 2 ^ (i + 1)) (so-far : q * den + r 
   next q′ r′ e l = rw (pow-add 2 (i + 1) 1, pow-add 2 i 1) (omega (arith, pow-add 2 i 1))
 
   -- eight digits are all: q / 256 is the cell
-  last : i ≡ 7 → 0 < rest → r < den → Normal (den + rest) (2 * den) q
+  last : i ≡ 7 → 0 < rest → r < den → Normalised (den + rest) (2 * den) q
   last e p l =
       let most : q < 256 = subst (λ (z : ℕ). q < 2 ^ (z + 1)) e small in
       let whole : q * den + r ≡ (den + rest) * 128 = subst (λ (z : ℕ). q * den + r ≡ (den + rest) * 2 ^ z) e so-far in
@@ -37,7 +37,7 @@ loop-again c =
     (omega arith, c .next-digit .ensures .1, d .0, d .1)
 
 done : (c : tie.After-struct-known Inv-loop μ-loop) → let a = c .before .before .before .args in
-    Normal (a .den + a .rest) (2 * a .den) (c .before .before .loop .q .digits)
+    Normalised (a .den + a .rest) (2 * a .den) (c .before .before .loop .q .digits)
 done c =
     let v = c .before .before .loop in
     last _ _ (v .i) _ _ (v .inv .2) (v .inv .3) (omega arith) (c .before .before .before .pre .0) (v .inv .1)
@@ -46,4 +46,4 @@ pub mantissa-spec : {M : Type 1} → statement M
 mantissa-spec =
     tie.close
     (tie.spec Inv-loop μ-loop (λ c. search needs) next-digit-requires (λ c. search needs) (λ c. search needs) loop-again
-    (λ c. omega (arith, mantissa-most (done c))) done)
+    (λ c. omega (arith, mantissa (done c))) done)

@@ -8,7 +8,7 @@ use lib.Pow.{pow-pos}
 use Rattle.number.specs.Fractions.{Frac, _over_}
 use Rattle.number.specs.Storing.{unit, Scales, Stores, ratioOf}
 use Rattle.number.specs.declared.ratio.StoredRatio.the-variants.{OutOfRange}
-use Rattle.number.proofs.Scaling.{rescale, into}
+use Rattle.number.proofs.Scaling.{rescale, powers-into}
 use Rattle.number.proofs.Ranges.{small, large}
 use Rattle.number.proofs.Storing.{too-small-at, fits-at, too-large-at}
 use Rattle.number.proofs.ratio.store_ratio.Statement.{statement}
@@ -40,7 +40,7 @@ module _ (num den exp : ℕ) where
   module _ (up down : ℕ) {M : ℕ} (s : Scales (num over den) up down M) where
     moved : (i j : ℕ) → up + (137 + j) ≡ exp + i + down → Scales F i j M
     unfolding unit
-    moved i j e = into exp 137 (rescale s e)
+    moved i j e = powers-into exp 137 (rescale s e)
 
     negative : exp + down < up + 9 → ratioOf F ≡ OutOfRange
     negative h = too-small-at (moved (up + 137) (exp + down) (omega arith)) (omega arith)

@@ -17,7 +17,7 @@ scaled : (m s M : ℕ) → AboveHalf m s → M ≡ min 255 (m * 2 ^ s % 2 ^ 64 /
 scaled m s M h e =
     let whole : m * 2 ^ s % 2 ^ 64 ≡ m * 2 ^ s = mod-eq-of-lt (lt-of-le-of-lt (h .at-most) (lit< tt)) in
     let quotient : 256 * (m * 2 ^ s) / 2 ^ 63 ≡ m * 2 ^ s / 2 ^ 55 = mul-div-mul-left {m = 256} (m * 2 ^ s) (2 ^ 55) (lit< tt) in
-    record { normal = record { above-half = h .above; at-most-one = h .at-most; digits = omega arith } }
+    record { normalised = record { above-half = h .above; at-most-one = h .at-most; digits = omega arith } }
 
 shifted : (c : tie.Start) → AboveHalf (c .args .m) (leadingZeros 64 (2 * c .args .m - 1))
 shifted c = halved (c .args .m) (c .pre .0) (omega arith)

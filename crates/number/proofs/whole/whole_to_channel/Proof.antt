@@ -5,7 +5,7 @@ use native.Mathlib.Omega.{arith}
 use borrow.Author.Needs.{needs}
 use Rattle.number.specs.Fractions.{_over_}
 use Rattle.number.specs.Storing.{Scales}
-use Rattle.number.proofs.Scaling.{rescale, whole-into}
+use Rattle.number.proofs.Scaling.{rescale, whole-powers-into}
 use Rattle.number.proofs.Channels.{black, black-at, bright-at, lit-at}
 use Rattle.number.proofs.whole.whole_to_channel.Statement.{statement}
 use Rattle.number.proofs.whole.whole_to_channel.Tie as tie
@@ -15,7 +15,7 @@ nothing m p q d e = subst (λ (z : ℕ). z * p * q ≤ d) (sym e) (omega arith)
 
 -- with the powers of two
 moved : {m s M : ℕ} (a b : ℕ) → Scales (m over 1) s 63 M → Scales (m * 2 ^ a over 2 ^ b) (b + s) (a + 63) M
-moved a b t = whole-into a b (rescale t (omega arith))
+moved a b t = whole-powers-into a b (rescale t (omega arith))
 
 returns : tie.Need-returns
 returns c = sym (black _ (record { cross = nothing _ _ _ _ (c .if1 .taken) }))
