@@ -22,11 +22,11 @@ pub enum Decoded {
 }
 
 // The exponents of lit channels, and their least mantissa.
-pub const LEAST_EXPONENT: u64 = 72;
+pub const LEAST_EXPONENT: u16 = 72;
 
-pub const GREATEST_EXPONENT: u64 = 184;
+pub const GREATEST_EXPONENT: u16 = 184;
 
-const LEAST_MANTISSA: u64 = 128;
+const LEAST_MANTISSA: u16 = 128;
 
 // The channel of a 16-bit number 256E + M, 0 for black.
 pub fn code_to_channel(code: u16) -> Decoded
@@ -35,14 +35,14 @@ pub fn code_to_channel(code: u16) -> Decoded
     if code == 0 {
         return Decoded::Holds(Channel::Black);
     }
-    let exponent = (code >> 8) as u64;
+    let exponent = code >> 8;
     if exponent < LEAST_EXPONENT {
         return Decoded::Refuses(Refusal::InvalidChannel);
     }
     if GREATEST_EXPONENT < exponent {
         return Decoded::Refuses(Refusal::InvalidChannel);
     }
-    let mantissa = (code % 256) as u64;
+    let mantissa = code % 256;
     if mantissa < LEAST_MANTISSA {
         return Decoded::Refuses(Refusal::InvalidChannel);
     }

@@ -11,10 +11,10 @@ use refusal::Refusal;
 // the subnormal step 2^-low.
 fn float_to_channel(
     hidden: u32,
-    ones: u16,
-    low: u16,
+    ones: u8,
+    low: u8,
     sign: u32,
-    exponent: u16,
+    exponent: u8,
     fraction: u32,
 ) -> Decoded
     requires { ⌜ hidden + fraction < 2 ^ 32 ⌝ }
@@ -41,7 +41,7 @@ pub fn half_to_channel(bits: u16) -> Decoded
         31,
         24,
         (bits >> 15) as u32,
-        (bits >> 10) % 32,
+        ((bits >> 10) % 32) as u8,
         (bits % 1024) as u32,
     )
 }
@@ -55,7 +55,7 @@ pub fn single_to_channel(bits: u32) -> Decoded
         255,
         149,
         bits >> 31,
-        ((bits >> 23) % 256) as u16,
+        ((bits >> 23) % 256) as u8,
         bits % 8388608,
     )
 }
@@ -67,5 +67,5 @@ pub fn rgbe_to_channel(byte: u8, exponent: u8) -> Decoded
     if exponent == 0 {
         return Decoded::Holds(Channel::Black);
     }
-    whole_to_channel(2 * (byte as u32) + 1, exponent as u16, 137)
+    whole_to_channel(2 * (byte as u32) + 1, exponent, 137)
 }

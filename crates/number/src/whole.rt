@@ -29,15 +29,15 @@ fn shift_up(m: u64) -> Shifted
 }
 
 // The channel of m * 2^up / 2^down.
-pub fn whole_to_channel(m: u32, up: u16, down: u16) -> Decoded
+pub fn whole_to_channel(m: u32, up: u8, down: u8) -> Decoded
     ensures { λ r. ⌜ r ≡ channelOf (m * 2 ^ up over 2 ^ down) ⌝ }
 {
     if m == 0 {
         return Decoded::Holds(Channel::Black);
     }
     let s = shift_up(m as u64);
-    let high = up as u64 + 63 + 128;
-    let low = down as u64 + s.shift as u64;
+    let high = up as u16 + 63 + 128;
+    let low = down as u16 + s.shift as u16;
     if high < low + LEAST_EXPONENT {
         return Decoded::Holds(Channel::Black);
     }

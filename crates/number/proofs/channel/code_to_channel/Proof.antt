@@ -40,5 +40,4 @@ returns-5 c =
 pub code-to-channel-spec : {M : Type 1} → statement M
 code-to-channel-spec =
     tie.close
-    (tie.spec returns (λ c. search needs) returns-2 returns-3 (λ c. search needs) returns-4 (λ c. search needs)
-    (λ c. search needs) returns-5)
+    (tie.spec returns returns-2 returns-3 returns-4 (λ c. search needs) (λ c. search needs) returns-5)
