@@ -8,8 +8,9 @@ use Rattle.number.specs.declared.ratio.Stored.{Stored}
 use Rattle.number.specs.declared.ratio.StoredRatio.{StoredRatio}
 use Rattle.number.specs.declared.ratio.StoredRatio.the-variants.{InRange, OutOfRange}
 
--- ---- the rule, for every positive rational. Any whole number E is 128 + j − i for some natural i and j; then 2^(E−128) is 2^j / 2^i
+-- ---- the rule, for every positive rational
 
+-- Every whole number E, negative ones too, is 128 + j − i for some natural i and j; 2^(E−128) is then 2^j / 2^i.
 abbrev pub exponentAt : (i j : ℕ) → ℤ
 exponentAt i j = subℕ (128 + j) i
 
@@ -32,6 +33,7 @@ pub record Scales (F : Frac) (i j M : ℕ) : Type 0 where
 abbrev pub scaledWorth : (i j M : ℕ) → Frac
 scaledWorth i j M = (2 * M + 1) * 2 ^ j over 2 ^ (i + 9)
 
+-- "So M is 128 to 255,
 abbrev pub leastMantissa : ℕ
 leastMantissa = 128
 
@@ -39,7 +41,7 @@ pub record IsMantissa (M : ℕ) : Type 0 where
   pub least : leastMantissa ≤ M
   pub most : M ≤ 255
 
--- "So M is 128 to 255, and the stored worth differs from F by less than F/256."
+-- and the stored worth differs from F by less than F/256."
 pub record Promised (F : Frac) (i j M : ℕ) : Type 0 where
   pub mantissa : IsMantissa M
   pub near : Near F (scaledWorth i j M)

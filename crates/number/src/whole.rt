@@ -10,7 +10,7 @@ use crate::channel::GREATEST_EXPONENT;
 use crate::channel::LEAST_EXPONENT;
 use refusal::Refusal;
 
-// A whole number times 2^shift lies above 2^62 and at most at 2^63; its mantissa.
+// The shift that brings a whole number above 2^62 and at most to 2^63, with the mantissa that it then has.
 struct Shifted {
     shift: u8,
     mantissa: u8,
