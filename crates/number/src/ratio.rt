@@ -47,20 +47,20 @@ struct Quotient {
 }
 
 // One digit more. No sum goes beyond the divisor.
-fn next_digit(q: Quotient, den: u64) -> Quotient
-    requires { ⌜ (q .rest < den) × (q .digits < 128) ⌝ }
-    ensures { λ r. ⌜ (r .digits * den + r .rest ≡ 2 * (q .digits * den + q .rest)) × (r .rest < den) × (r .digits ≤ 2 * q .digits + 1) ⌝ }
+fn next_digit(digits: u64, rest: u64, den: u64) -> Quotient
+    requires { ⌜ (rest < den) × (digits < 128) ⌝ }
+    ensures { λ r. ⌜ (r .digits * den + r .rest ≡ 2 * (digits * den + rest)) × (r .rest < den) × (r .digits ≤ 2 * digits + 1) ⌝ }
 {
-    let gap = den - q.rest;
-    if gap <= q.rest {
+    let gap = den - rest;
+    if gap <= rest {
         Quotient {
-            digits: 2 * q.digits + 1,
-            rest: q.rest - gap,
+            digits: 2 * digits + 1,
+            rest: rest - gap,
         }
     } else {
         Quotient {
-            digits: 2 * q.digits,
-            rest: q.rest + q.rest,
+            digits: 2 * digits,
+            rest: rest + rest,
         }
     }
 }
@@ -76,7 +76,7 @@ fn mantissa(rest: u64, den: u64) -> u8
     };
     let mut i: u64 = 0;
     while i < 7 {
-        q = next_digit(q, den);
+        q = next_digit(q.digits, q.rest, den);
         i += 1;
     }
     q.digits as u8
