@@ -2,7 +2,7 @@
 -- Assumes nothing.
 use mathlib.Core.Path.{_≡_, sym, ap, ap₂, _∙_, subst}
 use mathlib.Core.Logic.{_↔_, ⊎-elim}
-use Prim.Native.Nat.{ℕ, zero, suc, _+_, _-_, _*_, _^_, _≤_, _<_}
+use Prim.Native.Nat.{ℕ, suc, _+_, _-_, _*_, _^_, _≤_, _<_}
 use native.Mathlib.Nat.{
   eq-or-lt-of-le,
   le-antisymm,
@@ -11,6 +11,7 @@ use native.Mathlib.Nat.{
   le-of-lt,
   le-of-suc-le-suc,
   le-trans,
+  lt-of-mul-lt-mul-right,
   lt-of-not-le,
   mul-assoc,
   mul-le-mul-left,
@@ -32,8 +33,7 @@ use Rattle.number.proofs.Normalised.{divisor-pos, mantissa, floor, ceil
 
 -- a factor of a positive product
 left-pos : (a b : ℕ) → 0 < a * b → 0 < a
-left-pos zero b h = omega arith
-left-pos (suc a) b h = omega arith
+left-pos a b h = lt-of-mul-lt-mul-right b (omega arith)
 
 pow-split : (n a b : ℕ) → n * 2 ^ (a + b) ≡ n * 2 ^ a * 2 ^ b
 pow-split n a b = ap (λ (z : ℕ). n * z) (pow-add 2 a b) ∙ sym (mul-assoc n (2 ^ a) (2 ^ b))

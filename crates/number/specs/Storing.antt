@@ -33,7 +33,7 @@ pub record Scales (F : Frac) (i j M : ℕ) : Type 0 where
 abbrev pub scaledWorth : (i j M : ℕ) → Frac
 scaledWorth i j M = (2 * M + 1) * 2 ^ j over 2 ^ (i + 9)
 
--- "So M is 128 to 255,
+-- "M is 128 to 255"
 abbrev pub leastMantissa : ℕ
 leastMantissa = 128
 
@@ -41,7 +41,7 @@ pub record IsMantissa (M : ℕ) : Type 0 where
   pub least : leastMantissa ≤ M
   pub most : M ≤ 255
 
--- and the stored worth differs from F by less than F/256."
+-- "and the stored worth differs from F by less than F/256"
 pub record Promised (F : Frac) (i j M : ℕ) : Type 0 where
   pub mantissa : IsMantissa M
   pub near : Near F (scaledWorth i j M)
