@@ -1,6 +1,7 @@
 // The refusal list: why a call turns its input away, with the number and the place that it reports.
 ghost use mathlib.Core.Path.{_≡_};
 ghost use Rattle.refusal.specs.Refusals.{outcomeOf};
+ghost use Rattle.refusal.specs.Verdicts.{reportOf};
 
 // One case for each line of the list; the list's own words stand in specs/Refusals.antt.
 pub enum Refusal {
@@ -19,6 +20,12 @@ pub enum Refusal {
 pub struct Outcome {
     pub number: u64,
     pub place: usize,
+}
+
+// What a check answers: accepted, or refused at the element or word of an index; 0 where the list gives no index.
+pub enum Verdict {
+    Accepted,
+    Refused(Refusal, usize),
 }
 
 // The number and place of a refusal that was found at the element or word of this index.
@@ -62,5 +69,18 @@ pub fn outcome_of(refusal: Refusal, index: usize) -> Outcome
             number: 20,
             place: 0,
         },
+    }
+}
+
+// The number and place that a verdict stands for; both are 0 where the call accepts.
+pub fn report(verdict: Verdict) -> Outcome
+    ensures { λ r. ⌜ r ≡ reportOf verdict ⌝ }
+{
+    match verdict {
+        Verdict::Accepted => Outcome {
+            number: 0,
+            place: 0,
+        },
+        Verdict::Refused(refusal, index) => outcome_of(refusal, index),
     }
 }

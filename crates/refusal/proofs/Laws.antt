@@ -1,0 +1,30 @@
+-- Laws of a chain of checks. Assumes nothing.
+use Prim.Native.Nat.{ℕ}
+use mathlib.Core.Path.{_≡_, refl}
+use mathlib.Core.Bool.{Bool, true, false}
+use Rattle.refusal.specs.declared.Refusal.{Refusal}
+use Rattle.refusal.specs.declared.Verdict.{Verdict}
+use Rattle.refusal.specs.declared.Verdict.the-variants.{Accepted, Refused}
+use Rattle.refusal.specs.Verdicts.{require, andThen}
+
+-- an accepted chain: each check is met
+
+pub require-passed : (b : Bool) (r : Refusal) (i : ℕ) (v : Verdict) → require b r i v ≡ Accepted → (b ≡ true) × (v ≡ Accepted)
+unfolding require
+require-passed true r i v e = (refl, e)
+require-passed false r i v e = (cc, cc)
+
+pub and-passed : (v w : Verdict) → andThen v w ≡ Accepted → (v ≡ Accepted) × (w ≡ Accepted)
+unfolding andThen
+and-passed Accepted w e = (refl, e)
+and-passed (Refused r i) w e = (cc, cc)
+
+-- and back
+
+pub require-met : {b : Bool} (r : Refusal) (i : ℕ) {v : Verdict} → b ≡ true → v ≡ Accepted → require b r i v ≡ Accepted
+unfolding require
+require-met r i e f = rw (e, f)
+
+pub and-met : {v w : Verdict} → v ≡ Accepted → w ≡ Accepted → andThen v w ≡ Accepted
+unfolding andThen
+and-met e f = rw (e, f)

@@ -1,0 +1,45 @@
+-- Loops over a row: one that checks each element, one that stores each. Assumes nothing.
+use Prim.Native.Nat.{ℕ, zero, suc, _+_, _<_, _≤_}
+use mathlib.Core.Path.{_≡_, refl, ap, _∙_}
+use mathlib.Core.List.{List, [], _∷_}
+use native.Mathlib.Numerals.{add-one}
+use native.Mathlib.Nat.{zero-add, le-of-suc-le-suc, not-suc-le-zero}
+use native.Mathlib.Omega.{arith}
+use lib.ListN.{length, getD, set, drop, drop-of-length-le}
+use lib.Seq.{drop-cons, sets, sets-eq}
+use Rattle.number.specs.declared.channel.Channel.{Channel}
+use Rattle.number.specs.declared.channel.Channel.the-variants.{Black}
+use Rattle.number.specs.declared.channel.Decoded.{Decoded}
+use Rattle.number.specs.declared.channel.Decoded.the-variants.{Holds, Refuses}
+use Rattle.refusal.specs.declared.Refusal.{Refusal}
+use Rattle.refusal.specs.declared.Verdict.{Verdict}
+use Rattle.refusal.specs.declared.Verdict.the-variants.{Accepted, Refused}
+use Rattle.refusal.specs.Verdicts.{andThen}
+use Rattle.strip.specs.Placing.{Placed, placed, verdictAt, firstRefusal}
+use Rattle.strip.specs.Output.{onto}
+
+-- ---- the verdict on the elements that are left, from number i on
+
+unfoldable pub checking : (f : ℕ → ℕ → Decoded) (start : ℕ) → List ℕ → (i : ℕ) → Verdict
+checking f start xs i = firstRefusal (placed f start i (drop i xs))
+
+module _ (f : ℕ → ℕ → Decoded) (start : ℕ) (xs : List ℕ) (i : ℕ) where
+  step : i < length xs → checking f start xs i ≡ andThen (verdictAt (start + i) (f i (getD xs i 0))) (checking f start xs (i + 1))
+  unfolding checking
+  step h = rw (add-one i, drop-cons xs i 0 h)
+
+  pub checking-pass : {c : Channel} → i < length xs → f i (getD xs i 0) ≡ Holds c → checking f start xs i ≡ checking f start xs (i + 1)
+  unfolding andThen
+  checking-pass h e = rw (step h, e)
+
+  pub checking-stop : {r : Refusal} → i < length xs → f i (getD xs i 0) ≡ Refuses r → checking f start xs i ≡ Refused r (start + i)
+  unfolding andThen
+  checking-stop h e = rw (step h, e)
+
+  pub checking-done : length xs ≤ i → checking f start xs i ≡ Accepted
+  unfolding checking
+  checking-done h = rw (drop-of-length-le xs h)
+
+pub checking-all : (f : ℕ → ℕ → Decoded) (start : ℕ) (xs : List ℕ) → checking f start xs 0 ≡ firstRefusal (placed f start 0 xs)
+unfolding checking
+checking-all f start xs = refl

@@ -1,0 +1,31 @@
+-- `strip::check::check_key_word` meets its contract. Assumes nothing.
+use borrow.Author.Needs.{needs}
+use mathlib.Core.Path.{sym, _∙_}
+use borrow.Author.Tests.{eq-eqb, ne-eqb}
+use Rattle.refusal.specs.Verdicts.{require}
+use Rattle.strip.specs.Checks.{checkKeyWord}
+use Rattle.strip.proofs.check.check_key_word.Statement.{statement}
+use Rattle.strip.proofs.check.check_key_word.Tie as tie
+
+returns : tie.Need-returns
+unfolding checkKeyWord require
+returns c = simp (sym (c .before .key-word .ensures), ne-eqb _ _ (c .if1 .taken))
+
+returns-2 : tie.Need-returns-2
+unfolding checkKeyWord require
+returns-2 c =
+    let b = c .before .before in
+    simp (eq-eqb _ _ (b .if1 .left ∙ b .before .key-word .ensures), sym (c .before .key-fits .ensures), c .if2 .taken)
+
+returns-3 : tie.Need-returns-3
+unfolding checkKeyWord require
+returns-3 c =
+    let b = c .before .before in
+    simp (eq-eqb _ _ (b .if1 .left ∙ b .before .key-word .ensures), sym (c .before .key-fits .ensures), c .if2 .left)
+
+pub check-key-word-spec : {M : Type 1} → statement M
+check-key-word-spec =
+    tie.close
+    (tie.spec
+    (λ c. search needs) (λ c κs. search needs) returns (λ c. search needs)
+    (λ c κs. search needs) returns-2 returns-3)

@@ -1,0 +1,17 @@
+-- `strip::check::pixel_count` meets its contract: two fields of 14 bits. Assumes nothing.
+use borrow.Author.Needs.{needs}
+use Prim.Native.Nat.{_≤_}
+use native.Mathlib.Omega.{arith}
+use native.Mathlib.Nat.{mul-le-mul}
+use Rattle.strip.specs.Checks.{widthIn, heightIn}
+use Rattle.strip.proofs.check.pixel_count.Statement.{statement}
+use Rattle.strip.proofs.check.pixel_count.Tie as tie
+
+mul-result : tie.Need-mul-result
+mul-result c =
+    let w : widthIn (c .args .word) ≤ 16383 = omega arith in
+    let h : heightIn (c .args .word) ≤ 16383 = omega arith in
+    omega (arith, mul-le-mul w h)
+
+pub pixel-count-spec : {M : Type 1} → statement M
+pixel-count-spec = tie.close (tie.spec (λ c. search needs) (λ c. search needs) mul-result (λ c. search needs))

@@ -1,0 +1,21 @@
+-- `strip::word::decode_word` meets its contract. Assumes nothing.
+use borrow.Author.Needs.{needs}
+use mathlib.Core.Path.{_∙_, sym}
+use borrow.Author.Tests.{eq-eqb, ne-eqb}
+use Rattle.strip.specs.Checks.{decodeWord}
+use Rattle.strip.proofs.word.decode_word.Statement.{statement}
+use Rattle.strip.proofs.word.decode_word.Tie as tie
+
+returns : tie.Need-returns
+unfolding decodeWord
+returns c =
+    let b = c .before in
+    simp (eq-eqb _ _ (b .if1 .taken ∙ b .before .channel-word .ensures)) (c .code-to-channel .ensures)
+
+returns-2 : tie.Need-returns-2
+unfolding decodeWord
+returns-2 c = simp (sym (c .before .channel-word .ensures), ne-eqb _ _ (c .if1 .left))
+
+pub decode-word-spec : {M : Type 1} → statement M
+decode-word-spec =
+    tie.close (tie.spec (λ c. search needs) (λ c κs. search needs) (λ c κs. search needs) returns returns-2)

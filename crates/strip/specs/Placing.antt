@@ -1,0 +1,38 @@
+-- Channels as they stand in a row of elements or words, and the first that is refused. Assumes nothing.
+use Prim.Native.Nat.{ℕ, suc, _+_}
+use mathlib.Core.List.{List, [], _∷_, map}
+use Rattle.number.specs.declared.channel.Channel.{Channel}
+use Rattle.number.specs.declared.channel.Channel.the-variants.{Black}
+use Rattle.number.specs.declared.channel.Decoded.{Decoded}
+use Rattle.number.specs.declared.channel.Decoded.the-variants.{Holds, Refuses}
+use Rattle.refusal.specs.declared.Verdict.{Verdict}
+use Rattle.refusal.specs.declared.Verdict.the-variants.{Accepted, Refused}
+use Rattle.refusal.specs.Verdicts.{andThen}
+
+-- what stands for a channel, and the index of the element or word that names it
+pub record Placed : Type 0 where
+  pub index : ℕ
+  pub decoded : Decoded
+
+-- Each element of a row stands for one channel: the first for channel k, and f says what an element stands for as channel k. Channel 0
+-- stands at the index `start`.
+abbrev pub placed : (f : ℕ → ℕ → Decoded) (start k : ℕ) → List ℕ → List Placed
+placed f start k [] = []
+placed f start k (x ∷ xs) = record { index = start + k; decoded = f k x } ∷ placed f start (suc k) xs
+
+abbrev pub verdictAt : (i : ℕ) → Decoded → Verdict
+verdictAt i (Holds c) = Accepted
+verdictAt i (Refuses r) = Refused r i
+
+-- "elements in order", "words in order": the first that is refused decides
+abbrev pub firstRefusal : List Placed → Verdict
+firstRefusal [] = Accepted
+firstRefusal (p ∷ ps) = andThen (verdictAt (p .index) (p .decoded)) (firstRefusal ps)
+
+-- the channels of a row in which none is refused
+abbrev pub channelIn : Decoded → Channel
+channelIn (Holds c) = c
+channelIn (Refuses r) = Black
+
+abbrev pub channelsOf : List Placed → List Channel
+channelsOf ps = map (λ (p : Placed). channelIn (p .decoded)) ps

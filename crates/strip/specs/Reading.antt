@@ -1,0 +1,34 @@
+-- What an accepted strip holds. Assumes nothing.
+use Prim.Native.Nat.{ℕ, _+_, _*_}
+use mathlib.Core.List.{List, map}
+use Rattle.number.specs.declared.channel.Channel.{Channel}
+use Rattle.number.specs.Channels.{codeOf}
+use Rattle.refusal.specs.declared.Verdict.{Verdict}
+use Rattle.refusal.specs.declared.Verdict.the-variants.{Accepted, Refused}
+use Rattle.strip.specs.declared.header.Header.{Header}
+use Rattle.strip.specs.declared.header.Headed.{Headed}
+use Rattle.strip.specs.declared.header.Headed.the-variants.{Holds, Refuses}
+use Rattle.strip.specs.Placing.{channelsOf}
+use Rattle.strip.specs.Checks.{headerIn, bodyStart, body}
+
+-- its header, or its refusal
+abbrev pub headedBy : Verdict → Header → Headed
+headedBy Accepted h = Holds h
+headedBy (Refused r i) h = Refuses r i
+
+abbrev pub channelsIn : List ℕ → List Channel
+channelsIn s = channelsOf (body s)
+
+-- unpacked: the channels as 16-bit numbers
+abbrev pub codesIn : List ℕ → List ℕ
+codesIn s = map codeOf (channelsIn s)
+
+-- a part of a row: `count` words from the index `start` on
+pub record Part : Type 0 where
+  pub start : ℕ
+  pub count : ℕ
+
+-- "red word of its first pixel to blue of its last. A refused row is the empty part"
+abbrev pub rowPart : Verdict → List ℕ → (y : ℕ) → Part
+rowPart Accepted s y = record { start = bodyStart s + 3 * (headerIn s .width * y); count = 3 * headerIn s .width }
+rowPart (Refused r i) s y = record { start = 0; count = 0 }

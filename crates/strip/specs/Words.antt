@@ -1,0 +1,60 @@
+-- The words of a strip, as they are written. Assumes nothing.
+-- "A strip is a lent row of 32-bit words; bits 31..28 are the kind (decimal values), bit 0 the lowest." "Other bits are zero."
+use Prim.Native.Nat.{ℕ, zero, suc, _+_, _*_, _%_, _^_}
+use mathlib.Core.List.{List, [], _∷_, _++_}
+use mathlib.Core.Bool.{Bool, _&&_}
+use lib.Dec.{leb}
+use Rattle.number.specs.declared.channel.Channel.{Channel}
+use Rattle.number.specs.Channels.{codeOf}
+use Rattle.strip.specs.declared.header.Header.{Header}
+
+-- ---- the page
+
+abbrev pub pixels : Header → ℕ
+pixels h = h .width * h .height
+
+-- a bad size is "width or height 0 or above 8,192, or more than 16,777,216 pixels"
+unfoldable pub sizeFits : (width height : ℕ) → Bool
+sizeFits w h = leb 1 w && leb w 8192 && leb 1 h && leb h 8192 && leb (w * h) 16777216
+
+-- a bad key: "K is 0 or above 1,000"
+unfoldable pub keyFits : (key : ℕ) → Bool
+keyFits k = leb 1 k && leb k 1000
+
+-- ---- the words
+
+-- the word of a kind that has v in its lower bits
+abbrev pub wordOf : (kind v : ℕ) → ℕ
+wordOf kind v = kind * 2 ^ 28 + v
+
+-- "Kind 1, size, first: width in bits 27..14, height in 13..0."
+abbrev pub sizeWord : (width height : ℕ) → ℕ
+sizeWord w h = wordOf 1 (w * 2 ^ 14 + h)
+
+-- "Kind 2, key, second: K in 15..0."
+abbrev pub keyWord : (key : ℕ) → ℕ
+keyWord k = wordOf 2 k
+
+abbrev pub headWords : Header → List ℕ
+headWords h = sizeWord (h .width) (h .height) ∷ keyWord (h .key) ∷ []
+
+-- "Kinds 4, 5, 6: red, green, blue of each pixel in turn, left to right, top row first; E in 15..8, M in 7..0." Channel k of the page, from 0,
+-- has this kind; its exponent and mantissa are its 16-bit code
+abbrev pub channelKind : (k : ℕ) → ℕ
+channelKind k = 4 + k % 3
+
+abbrev pub channelWord : (k code : ℕ) → ℕ
+channelWord k code = wordOf (channelKind k) code
+
+-- the words of channels, the first of which is channel k
+abbrev pub bodyWords : (k : ℕ) → List Channel → List ℕ
+bodyWords k [] = []
+bodyWords k (c ∷ cs) = channelWord k (codeOf c) ∷ bodyWords (suc k) cs
+
+-- "Kind 7, end, last: the pixel count in 27..0."
+abbrev pub endWord : (pixels : ℕ) → ℕ
+endWord n = wordOf 7 n
+
+-- the strip of a page
+abbrev pub stripOf : Header → List Channel → List ℕ
+stripOf h cs = headWords h ++ bodyWords 0 cs ++ endWord (pixels h) ∷ []
