@@ -43,3 +43,24 @@ module _ (f : ℕ → ℕ → Decoded) (start : ℕ) (xs : List ℕ) (i : ℕ) w
 pub checking-all : (f : ℕ → ℕ → Decoded) (start : ℕ) (xs : List ℕ) → checking f start xs 0 ≡ firstRefusal (placed f start 0 xs)
 unfolding checking
 checking-all f start xs = refl
+
+-- ---- an output once the elements of vs from number i on are stored too, from the index j on
+
+unfoldable pub storing : (vs : List ℕ) (i j : ℕ) → List ℕ → List ℕ
+storing vs i j t = sets t j (drop i vs)
+
+module _ (vs : List ℕ) (i j : ℕ) (t : List ℕ) where
+  pub storing-step : (v : ℕ) → i < length vs → getD vs i 0 ≡ v → storing vs i j t ≡ storing vs (i + 1) (j + 1) (set t j v)
+  unfolding storing
+  storing-step v h e = rw (add-one i, add-one j, ← e, drop-cons vs i 0 h)
+
+  pub storing-done : length vs ≤ i → storing vs i j t ≡ t
+  unfolding storing
+  storing-done h = rw (drop-of-length-le vs h)
+
+pub storing-all : (vs : List ℕ) (j : ℕ) (t : List ℕ) → storing vs 0 j t ≡ sets t j vs
+unfolding storing
+storing-all vs j t = refl
+
+pub sets-front : (vs t : List ℕ) → length vs ≤ length t → sets t 0 vs ≡ onto vs t
+sets-front vs t h = sets-eq vs t 0 (rw zero-add h) ∙ rw (zero-add (length vs))

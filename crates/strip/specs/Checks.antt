@@ -58,9 +58,12 @@ declaredLength s = endIndex s + 1
 unfoldable pub decodeWord : (k w : ℕ) → Decoded
 decodeWord k w = cond (eqb w (channelWord k (low16 w))) (channelOfCode (low16 w)) (Refuses UnexpectedWord)
 
--- the channel words
+-- the channel words, and what stands in them
+abbrev pub bodyIn : List ℕ → List ℕ
+bodyIn s = take (channelCount s) (drop (bodyStart s) s)
+
 abbrev pub body : List ℕ → List Placed
-body s = placed decodeWord (bodyStart s) 0 (take (channelCount s) (drop (bodyStart s) s))
+body s = placed decodeWord (bodyStart s) 0 (bodyIn s)
 
 unfoldable pub checkSizeWord : (w : ℕ) → Verdict
 checkSizeWord w =

@@ -1,6 +1,7 @@
 -- What an accepted strip holds. Assumes nothing.
 use Prim.Native.Nat.{ℕ, _+_, _*_}
 use mathlib.Core.List.{List, map}
+use lib.ListN.{take, drop}
 use Rattle.number.specs.declared.channel.Channel.{Channel}
 use Rattle.number.specs.Channels.{codeOf}
 use Rattle.refusal.specs.declared.Verdict.{Verdict}
@@ -23,10 +24,18 @@ channelsIn s = channelsOf (body s)
 abbrev pub codesIn : List ℕ → List ℕ
 codesIn s = map codeOf (channelsIn s)
 
--- a part of a row: `count` words from the index `start` on
+-- a part of a lent row of words: `count` of them from the index `start` on
 pub record Part : Type 0 where
   pub start : ℕ
   pub count : ℕ
+
+-- the words of a part
+abbrev pub wordsOf : Part → List ℕ → List ℕ
+wordsOf p s = take (p .count) (drop (p .start) s)
+
+-- where a part lies: in the same block as the whole, four bytes a word further on
+abbrev pub pointerTo : Part → (whole : ℕ × ℕ) → ℕ × ℕ
+pointerTo p (block, offset) = (block, p .start * 4 + offset)
 
 -- "red word of its first pixel to blue of its last. A refused row is the empty part"
 abbrev pub rowPart : Verdict → List ℕ → (y : ℕ) → Part

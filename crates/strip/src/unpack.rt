@@ -1,1 +1,56 @@
-// The checks of a whole strip.
+// What an accepted strip holds: its header, and its channels as 16-bit numbers.
+ghost use mathlib.Core.Path.{_≡_};
+ghost use mathlib.Core.List.{map};
+ghost use Prim.Native.Nat.{_≤_};
+ghost use lib.ListN.{length};
+ghost use Rattle.strip.specs.Checks.{low16, headerIn, checkStrip, checkOutput};
+ghost use Rattle.strip.specs.Reading.{headedBy, codesIn};
+ghost use Rattle.strip.specs.Output.{onto, after};
+use crate::check::BODY_START;
+use crate::check::check;
+use crate::check::check_output;
+use crate::check::pixel_count;
+use crate::header::Headed;
+use crate::header::Header;
+use refusal::Verdict;
+
+// The header of a strip, or its refusal.
+pub fn header(strip: &[u32]) -> Headed
+    ensures { λ r. ⌜ r ≡ headedBy (checkStrip (now (strip .entry))) (headerIn (now (strip .entry))) ⌝ }
+{
+    let verdict = check(strip);
+    match verdict {
+        Verdict::Accepted => Headed::Holds(Header {
+            width: (strip[0] / 16384 % 16384) as u64,
+            height: (strip[0] % 16384) as u64,
+            key: (strip[1] % 65536) as u64,
+        }),
+        Verdict::Refused(refusal, i) => Headed::Refuses(refusal, i),
+    }
+}
+
+// The lower halves of the words, into the front of the output.
+fn store_codes(words: &[u32], output: &mut [u16])
+    requires { ⌜ length (now words) ≤ length (now output) ⌝ }
+    ensures { λ _. ⌜ now (output .exit) ≡ onto (map low16 (now (words .entry))) (now (output .entry)) ⌝ }
+{
+    let mut i: usize = 0;
+    while i < words.len() {
+        output[i] = (words[i] % 65536) as u16;
+        i += 1;
+    }
+}
+
+// The channels of an accepted strip as 16-bit numbers, into the front of the output; a refusal leaves the output as it was.
+pub fn unpack(strip: &[u32], output: &mut [u16]) -> Verdict
+    ensures verdict { λ r. ⌜ r ≡ checkOutput (now (strip .entry)) (length (now (output .entry))) ⌝ }
+    ensures content { λ r. ⌜ now (output .exit) ≡ after r (codesIn (now (strip .entry))) (now (output .entry)) ⌝ }
+{
+    let verdict = check_output(strip, output.len());
+    let Verdict::Accepted = verdict else {
+        return verdict;
+    };
+    let end = BODY_START + 3 * pixel_count(strip[0]);
+    store_codes(&strip[BODY_START..end], output);
+    Verdict::Accepted
+}

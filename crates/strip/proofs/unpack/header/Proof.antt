@@ -1,0 +1,24 @@
+-- `strip::unpack::header` meets its contract. Assumes nothing.
+use borrow.Author.Needs.{needs}
+use mathlib.Core.Path.{_≡_, sym}
+use native.Mathlib.Omega.{arith}
+use denote.Ref.{now}
+use Rattle.refusal.specs.declared.Verdict.the-variants.{Accepted}
+use Rattle.strip.specs.Checks.{checkStrip}
+use Rattle.strip.proofs.Limits.{Whole, whole}
+use Rattle.strip.proofs.unpack.header.Statement.{statement}
+use Rattle.strip.proofs.unpack.header.Tie as tie
+
+strip : (c : tie.After-enum-told) → Whole (now (c .before .before .before .before .args .strip))
+unfolding checkStrip
+strip c = whole Accepted (now (c .before .before .before .before .args .strip)) (cc) .1
+
+pub header-spec : {M : Type 1} → statement M
+header-spec =
+    tie.close
+    (tie.spec
+    (λ c κs. search needs) (λ c. search needs) (λ c. omega (arith, strip (c .before) .head .long)) (λ c. search needs)
+    (λ c. omega (arith, strip (c .before .before) .head .long)) (λ c. search needs)
+    (λ c. omega (arith, strip (c .before .before .before) .head .long)) (λ c. search needs) (λ c. search needs)
+    (λ c. simp (sym (c .before .before .before .before .before .check .ensures), c .before .before .before .enum-told .given .1))
+    (λ c. simp (sym (c .before .before .before .check .ensures), c .before .verdict .given .1)))

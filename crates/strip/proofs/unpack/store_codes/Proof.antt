@@ -1,0 +1,39 @@
+-- `strip::unpack::store_codes` meets its contract: at each turn the stores that are left give the whole. Assumes nothing.
+use borrow.Author.Needs.{needs}
+use Prim.Native.Nat.{_-_}
+use mathlib.Core.Path.{_≡_, refl, sym, _∙_}
+use mathlib.Core.List.{map}
+use lib.ListN.{length, length-set, length-map, List·getD-map}
+use Rattle.strip.specs.Checks.{low16}
+use Rattle.strip.specs.Output.{onto}
+use Rattle.strip.proofs.Walks.{storing, storing-step, storing-done, storing-all, sets-front}
+use Rattle.strip.proofs.unpack.store_codes.Statement.{statement}
+use Rattle.strip.proofs.unpack.store_codes.Tie as tie
+
+abbrev Inv-loop : tie.InvT-loop
+Inv-loop words output₀ i₀ output i =
+    (length output ≡ length output₀) × (storing (map low16 words) i i output ≡ onto (map low16 words) output₀)
+
+abbrev μ-loop : tie.MeasureT-loop
+μ-loop words output₀ i₀ output i = length words - i
+
+loop-holds : tie.Need-loop-holds Inv-loop μ-loop
+loop-holds c = (refl, storing-all _ _ _ ∙ sets-front (map low16 (c .args .words .now)) _ (rw length-map (c .pre)))
+
+loop-again : tie.Need-loop-again Inv-loop μ-loop
+loop-again c =
+    let l = c .before .before .loop in
+    let ws = c .before .before .before .args .words .now in (
+      simp length-set (l .inv .0),
+      sym (storing-step _ _ _ (l .output) _ (rw length-map (c .before .loop-test .taken)) (List·getD-map low16 ws _ 0)) ∙ l .inv .1,
+    )
+
+returns : tie.Need-returns Inv-loop μ-loop
+returns c = sym (storing-done _ _ _ _ (rw length-map (c .loop-test .left))) ∙ c .before .loop .inv .1
+
+pub store-codes-spec : {M : Type 1} → statement M
+store-codes-spec =
+    tie.close
+    (tie.spec
+    Inv-loop μ-loop loop-holds (λ c. search needs) (λ c. search needs) (λ c. search needs) (λ c. search needs)
+    (λ c. search needs) (λ c. search needs) (λ c. search needs) loop-again (λ c. search needs) returns)

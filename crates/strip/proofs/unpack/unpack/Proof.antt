@@ -1,0 +1,38 @@
+-- `strip::unpack::unpack` meets its contract: a refusal comes before the first store, and what is stored is `codesIn`. Assumes nothing.
+use borrow.Author.Needs.{needs}
+use Prim.Native.Nat.{_*_}
+use mathlib.Core.Path.{_≡_, sym, ap, _∙_}
+use native.Mathlib.Omega.{arith}
+use native.Mathlib.Nat.{add-sub-cancel-left}
+use lib.ListN.{length}
+use denote.Ref.{now}
+use Rattle.strip.specs.Output.{onto}
+use Rattle.strip.proofs.Limits.{Fits, output-limits}
+use Rattle.strip.proofs.Bodies.{codes-in}
+use Rattle.strip.proofs.unpack.unpack.Statement.{statement}
+use Rattle.strip.proofs.unpack.unpack.Tie as tie
+
+-- what holds once the strip is accepted
+limits : (c : tie.After-enum-told) → let a = c .before .before .before .before .before .args in Fits (now (a .strip)) (length (now (a .output)))
+limits c = output-limits _ _ (cc)
+
+returns-2 : tie.Need-returns-2
+returns-2 c =
+    let p = c .before .before .before .before .before in
+    let a = p .before .before .before .before .before .before .before .args in
+    let stored =
+    rw (add-sub-cancel-left 2 (3 * p .pixel-count .result), p .pixel-count .ensures) at (c .before .before .store-codes .ensures) in
+    let codes = codes-in (now (a .strip)) (limits (p .before .before) .strip .channels) in
+    (cc, stored ∙ ap (λ vs. onto vs (now (a .output))) (sym codes))
+
+pub unpack-spec : {M : Type 1} → statement M
+unpack-spec =
+    tie.close
+    (tie.spec
+    (λ c κs. search needs) (λ c. search needs) (λ c. search needs) (λ c. search needs)
+    (λ c. omega (arith, limits (c .before) .strip .head .long)) (λ c κs. search needs)
+    (λ c. omega (arith, c .pixel-count .ensures, limits (c .before .before) .fits))
+    (λ c. omega (arith, c .pixel-count .ensures, limits (c .before .before) .fits)) (λ c. search needs) (λ c. search needs)
+    (λ c. omega (arith, c .pixel-count .ensures, limits (c .before .before) .strip .head .long))
+    (λ c κs. omega (arith, c .before .store-codes-arg .given, c .before .before .pixel-count .ensures, limits (c .before .before .before .before) .fits))
+    (λ c. search needs) returns-2)
