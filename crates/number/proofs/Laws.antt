@@ -21,3 +21,4 @@ pub use Rattle.number.proofs.Sticky.{sticky-bit}
 -- the order of 256E + M; channels
 pub use Rattle.number.proofs.Storing.{code-order}
 pub use Rattle.number.proofs.Channels.{Coded, code-channel, channel-code, channel-order, channel-valid}
+pub use Rattle.number.proofs.Sources.{half-valid, single-valid, rgbe-valid}

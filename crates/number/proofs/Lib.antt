@@ -6,3 +6,4 @@ pub mod Storing
 pub mod Sticky
 pub mod Shifts
 pub mod Channels
+pub mod Sources

@@ -15,7 +15,9 @@ use Rattle.refusal.specs.declared.Refusal.{Refusal}
 use Rattle.refusal.specs.declared.Verdict.{Verdict}
 use Rattle.refusal.specs.declared.Verdict.the-variants.{Accepted, Refused}
 use Rattle.refusal.specs.Verdicts.{andThen}
-use Rattle.strip.specs.Placing.{Placed, placed, verdictAt, firstRefusal}
+use Rattle.number.specs.Channels.{codeOf}
+use Rattle.strip.specs.Words.{channelWord, bodyWords}
+use Rattle.strip.specs.Placing.{placed, verdictAt, firstRefusal, channelIn, channelsOf}
 use Rattle.strip.specs.Output.{onto}
 
 -- ---- the verdict on the elements that are left, from number i on
@@ -64,3 +66,26 @@ storing-all vs j t = refl
 
 pub sets-front : (vs t : List ℕ) → length vs ≤ length t → sets t 0 vs ≡ onto vs t
 sets-front vs t h = sets-eq vs t 0 (rw zero-add h) ∙ rw (zero-add (length vs))
+
+-- ---- an output once the words of the elements from number i on are stored too
+
+unfoldable pub writing : (f : ℕ → ℕ → Decoded) → List ℕ → (i : ℕ) → List ℕ → List ℕ
+writing f xs i t = sets t (2 + i) (bodyWords i (channelsOf (placed f 0 i (drop i xs))))
+
+module _ (f : ℕ → ℕ → Decoded) (xs : List ℕ) (i : ℕ) (t : List ℕ) where
+  pub writing-step : (w : ℕ) → i < length xs → w ≡ channelWord i (codeOf (channelIn (f i (getD xs i 0))))
+      → writing f xs i t ≡ writing f xs (i + 1) (set t (2 + i) w)
+  unfolding writing
+  writing-step w h e = let n : 2 + (i + 1) ≡ suc (2 + i) = omega arith in rw (n, add-one i, e, drop-cons xs i 0 h)
+
+  pub writing-done : length xs ≤ i → writing f xs i t ≡ t
+  unfolding writing
+  writing-done h = rw (drop-of-length-le xs h)
+
+pub writing-all : (f : ℕ → ℕ → Decoded) (xs t : List ℕ) → writing f xs 0 t ≡ sets t 2 (bodyWords 0 (channelsOf (placed f 0 0 xs)))
+unfolding writing
+writing-all f xs t = refl
+
+pub length-words : (k : ℕ) (cs : List Channel) → length (bodyWords k cs) ≡ length cs
+length-words k [] = refl
+length-words k (c ∷ cs) = ap suc (length-words (suc k) cs)

@@ -77,7 +77,7 @@ pub fn check_head(strip: &[u32]) -> Verdict
 }
 
 // The verdict on one word, which stands at index i.
-fn verdict_at(i: usize, decoded: Decoded) -> Verdict
+pub fn verdict_at(i: usize, decoded: Decoded) -> Verdict
     ensures { λ r. ⌜ r ≡ verdictAt i decoded ⌝ }
 {
     match decoded {

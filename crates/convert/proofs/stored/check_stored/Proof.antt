@@ -1,0 +1,43 @@
+-- `convert::stored::check_stored` meets its contract: at each turn the verdict on the elements that are left is that on all.
+-- Assumes nothing.
+use borrow.Author.Needs.{needs}
+use Prim.Native.Nat.{_-_}
+use mathlib.Core.Path.{_≡_, sym, _∙_}
+use native.Mathlib.Nat.{zero-add}
+use lib.ListN.{length}
+use Rattle.strip.specs.Placing.{firstRefusal}
+use Rattle.strip.proofs.Walks.{checking, checking-pass, checking-stop, checking-done, checking-all}
+use Rattle.convert.specs.Formats.{stored, storedElement, elements}
+use Rattle.convert.proofs.stored.check_stored.Statement.{statement}
+use Rattle.convert.proofs.stored.check_stored.Tie as tie
+
+abbrev Inv-loop : tie.InvT-loop
+Inv-loop source k₀ k = checking storedElement 0 source k ≡ firstRefusal (elements stored source)
+
+abbrev μ-loop : tie.MeasureT-loop
+μ-loop source k₀ k = length source - k
+
+returns : tie.Need-returns Inv-loop μ-loop
+returns c =
+    let b = c .before .before .before in
+    let l = b .before .before .before .loop in
+    let told = c .before .enum-told2 .given .1 in
+    let stop = checking-stop _ _ _ _ (b .before .before .loop-test .taken) (sym (b .code-to-channel .ensures) ∙ told) in
+    simp (c .verdict-at .ensures, told) (rw (zero-add (l .k)) at (sym stop ∙ l .inv))
+
+loop-again : tie.Need-loop-again Inv-loop μ-loop
+loop-again c =
+    let b = c .before .before in
+    let pass = checking-pass _ _ _ _ (b .before .before .loop-test .taken) (sym (b .code-to-channel .ensures) ∙ c .enum-told .given .1) in
+    sym pass ∙ b .before .before .before .loop .inv
+
+returns-2 : tie.Need-returns-2 Inv-loop μ-loop
+returns-2 c = sym (checking-done _ _ _ _ (c .loop-test .left)) ∙ c .before .loop .inv
+
+pub check-stored-spec : {M : Type 1} → statement M
+check-stored-spec =
+    tie.close
+    (tie.spec
+    Inv-loop μ-loop (λ c. checking-all _ _ _) (λ c. search needs) (λ c. search needs) (λ c κs. search needs)
+    (λ c. search needs) (λ c. search needs) (λ c κs. search needs) returns (λ c. search needs) (λ c. search needs)
+    loop-again returns-2)

@@ -1,0 +1,36 @@
+-- Converting: its checks in their order, and the strip that it writes. Assumes nothing.
+-- "Converting: 1, 2, 3, 4, then elements in order, 5 before 6; a stored row can only give 8 there."
+use Prim.Native.Nat.{ℕ, _+_, _*_}
+use mathlib.Core.List.{List, map}
+use lib.ListN.{length}
+use lib.Dec.{leb, eqb}
+use Rattle.number.specs.Channels.{codeOf}
+use Rattle.refusal.specs.declared.Refusal.the-variants.{BadSize, BadKey, WrongLength, SmallOutput}
+use Rattle.refusal.specs.declared.Verdict.{Verdict}
+use Rattle.refusal.specs.declared.Verdict.the-variants.{Accepted}
+use Rattle.refusal.specs.Verdicts.{require, andThen}
+use Rattle.strip.specs.declared.header.Header.{Header}
+use Rattle.strip.specs.Words.{pixels, sizeFits, keyFits, stripOf}
+use Rattle.strip.specs.Placing.{firstRefusal, channelsOf}
+use Rattle.convert.specs.Formats.{Format, perPixel, elements}
+
+-- the checks of a source of so many elements, `per` of them a pixel, and an output of `room` words; a strip has three words a pixel, and three
+unfoldable pub checkPage : Header → (per count room : ℕ) → Verdict
+checkPage h per count room =
+    require (sizeFits (h .width) (h .height)) BadSize 0
+    (require (keyFits (h .key)) BadKey 0
+    (require (eqb count (per * pixels h)) WrongLength 0
+    (require (leb (3 * pixels h + 3) room) SmallOutput 0
+    Accepted)))
+
+-- An element is refused by one number only: what is no number by 5, and only what is one can be too bright.
+unfoldable pub checkSource : Format → Header → List ℕ → (room : ℕ) → Verdict
+checkSource f h xs room = andThen (checkPage h (perPixel f) (length xs) room) (firstRefusal (elements f xs))
+
+-- "A source picture is converted with its width, height and key into a whole strip."
+abbrev pub converted : Format → Header → List ℕ → List ℕ
+converted f h xs = stripOf h (channelsOf (elements f xs))
+
+-- the channels of a source as 16-bit numbers
+abbrev pub codesOf : Format → List ℕ → List ℕ
+codesOf f xs = map codeOf (channelsOf (elements f xs))

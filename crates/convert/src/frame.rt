@@ -1,0 +1,67 @@
+// What every conversion does: the checks of the page, and the words around the channels.
+ghost use mathlib.Core.Path.{_≡_};
+ghost use mathlib.Core.Bool.{true};
+ghost use Prim.Native.Nat.{_+_, _*_, _≤_};
+ghost use lib.ListN.{length, set};
+ghost use Rattle.number.specs.Channels.{codeOf};
+ghost use Rattle.strip.specs.Words.{pixels, sizeFits, keyFits, sizeWord, keyWord, channelWord, endWord};
+ghost use Rattle.strip.specs.Placing.{channelIn};
+ghost use Rattle.convert.specs.Converting.{checkPage};
+use number::channel::Decoded;
+use number::channel::channel_to_code;
+use refusal::Refusal;
+use refusal::Verdict;
+use strip::check::BODY_START;
+use strip::header::Header;
+use strip::header::key_fits;
+use strip::header::size_fits;
+use strip::word::channel_word;
+use strip::word::key_word;
+use strip::word::size_word;
+
+// The checks of a source of so many elements, and an output of so many words.
+pub fn check_page(header: Header, per: u8, count: usize, room: usize) -> Verdict
+    ensures { λ r. ⌜ r ≡ checkPage header per count room ⌝ }
+{
+    let width = header.width;
+    let height = header.height;
+    if !size_fits(width, height) {
+        return Verdict::Refused(Refusal::BadSize, 0);
+    }
+    if !key_fits(header.key) {
+        return Verdict::Refused(Refusal::BadKey, 0);
+    }
+    let pixels = (width * height) as usize;
+    if count != per as usize * pixels {
+        return Verdict::Refused(Refusal::WrongLength, 0);
+    }
+    if room < 3 * pixels + 3 {
+        return Verdict::Refused(Refusal::SmallOutput, 0);
+    }
+    Verdict::Accepted
+}
+
+// The word of channel k.
+pub fn word_of(k: usize, decoded: Decoded) -> u32
+    ensures { λ r. ⌜ r ≡ channelWord k (codeOf (channelIn decoded)) ⌝ }
+{
+    match decoded {
+        Decoded::Holds(channel) => channel_word(k, channel_to_code(channel)),
+        Decoded::Refuses(_) => channel_word(k, 0),
+    }
+}
+
+// The words around the channels: size, key and end.
+pub fn store_frame(header: Header, output: &mut [u32])
+    requires { ⌜ (sizeFits (header .width) (header .height) ≡ true) × (keyFits (header .key) ≡ true) × (3 * pixels header + 3 ≤ length (now output)) ⌝ }
+    ensures { λ _. ⌜ now (output .exit) ≡ set (set (set (now (output .entry)) 0 (sizeWord (header .width) (header .height))) 1 (keyWord (header .key))) (2 + 3 * pixels header) (endWord (pixels header)) ⌝ }
+{
+    let width = header.width;
+    let height = header.height;
+    let key = header.key;
+    let pixels = width * height;
+    let end = BODY_START + 3 * (pixels as usize);
+    output[0] = size_word(width as u16, height as u16);
+    output[1] = key_word(key as u16);
+    output[end] = (7 * 268435456 + pixels) as u32;
+}

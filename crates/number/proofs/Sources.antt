@@ -1,0 +1,70 @@
+-- Every channel that a source number becomes is one. Assumes nothing.
+use mathlib.Core.Path.{_≡_, refl, subst}
+use mathlib.Core.Bool.{Bool, true, false, cond}
+use Prim.Native.Nat.{ℕ, zero, suc, _<_}
+use native.Mathlib.Omega.{arith}
+use lib.Dec.{eqb}
+use lib.Pow.{pow-pos}
+use Rattle.number.specs.Fractions.{Frac, _over_}
+use Rattle.number.specs.Storing.{unit, worth}
+use Rattle.number.specs.Channels.{IsChannel}
+use Rattle.number.specs.Sources.{
+  Value,
+  plus,
+  minus,
+  notFinite,
+  channelOfValue,
+  magnitude,
+  fieldValue,
+  halfValue,
+  singleValue,
+  rgbeValue,
+}
+use Rattle.number.specs.declared.channel.Channel.{Channel}
+use Rattle.number.specs.declared.channel.Channel.the-variants.{Black}
+use Rattle.number.specs.declared.channel.Decoded.the-variants.{Holds}
+use Rattle.number.proofs.Storing.{unit-pos}
+use Rattle.number.proofs.Channels.{channel-valid}
+
+module _ (c : Channel) where
+  Valid : Value → Type 0
+  Valid v = channelOfValue v ≡ Holds c → IsChannel c
+
+  valid-plus : (x : Frac) → 0 < x .den → Valid (plus x)
+  unfolding Valid channelOfValue
+  valid-plus x p h = channel-valid x p c h
+
+  valid-minus : (x : Frac) → Valid (minus x)
+  unfolding Valid channelOfValue
+  valid-minus x h = let e : Black ≡ c = cc in subst IsChannel e tt
+
+  valid-not-finite : Valid notFinite
+  unfolding Valid channelOfValue
+  valid-not-finite h = let z : _≡_ {A = ℕ} 0 1 = cc in absurd (omega arith)
+
+  valid-signed : (ones signed : Bool) (x : Frac) → 0 < x .den → Valid (cond ones notFinite (cond signed (plus x) (minus x)))
+  valid-signed true s x p = valid-not-finite
+  valid-signed false true x p = valid-plus x p
+  valid-signed false false x p = valid-minus x
+
+  magnitude-pos : (hidden low x t : ℕ) → 0 < magnitude hidden low x t .den
+  magnitude-pos hidden low zero t = pow-pos low
+  magnitude-pos hidden low (suc x) t = pow-pos low
+
+  field-valid : (hidden ones low s x t : ℕ) → channelOfValue (fieldValue hidden ones low s x t) ≡ Holds c → IsChannel c
+  unfolding fieldValue Valid
+  field-valid hidden ones low s x t = valid-signed (eqb x ones) (eqb s 0) (magnitude hidden low x t) (magnitude-pos hidden low x t)
+
+  valid-worth : (b : Bool) (m e : ℕ) → Valid (plus (cond b (0 over unit) (worth e m)))
+  valid-worth true m e = valid-plus (0 over unit) unit-pos
+  valid-worth false m e = valid-plus (worth e m) unit-pos
+
+  pub half-valid : (b : ℕ) → channelOfValue (halfValue b) ≡ Holds c → IsChannel c
+  half-valid b h = field-valid _ _ _ _ _ _ h
+
+  pub single-valid : (b : ℕ) → channelOfValue (singleValue b) ≡ Holds c → IsChannel c
+  single-valid b h = field-valid _ _ _ _ _ _ h
+
+  pub rgbe-valid : (m e : ℕ) → channelOfValue (rgbeValue m e) ≡ Holds c → IsChannel c
+  unfolding rgbeValue Valid
+  rgbe-valid m e = valid-worth (eqb e 0) m e
