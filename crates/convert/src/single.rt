@@ -1,1 +1,64 @@
-// x
+// A picture of single floats into a strip.
+ghost use mathlib.Core.Path.{_≡_};
+ghost use Prim.Native.Nat.{_+_, _≤_};
+ghost use lib.ListN.{length};
+ghost use lib.Seq.{sets};
+ghost use Rattle.strip.specs.Words.{bodyWords};
+ghost use Rattle.strip.specs.Placing.{firstRefusal, channelsOf};
+ghost use Rattle.strip.specs.Output.{after};
+ghost use Rattle.convert.specs.Formats.{single, elements};
+ghost use Rattle.convert.specs.Converting.{checkSource, converted};
+use crate::frame::check_page;
+use crate::frame::store_frame;
+use crate::frame::word_of;
+use number::channel::Decoded;
+use number::source::single_to_channel;
+use refusal::Verdict;
+use strip::check::BODY_START;
+use strip::check::verdict_at;
+use strip::header::Header;
+
+// The first element that is no number or too bright.
+fn check_single(source: &[u32]) -> Verdict
+    ensures { λ r. ⌜ r ≡ firstRefusal (elements single (now (source .entry))) ⌝ }
+{
+    let mut k: usize = 0;
+    while k < source.len() {
+        let decoded = single_to_channel(source[k]);
+        let Decoded::Holds(_) = decoded else {
+            return verdict_at(k, decoded);
+        };
+        k += 1;
+    }
+    Verdict::Accepted
+}
+
+// The channel words, behind the header words.
+fn store_single(source: &[u32], output: &mut [u32])
+    requires { ⌜ length (now source) + 2 ≤ length (now output) ⌝ }
+    ensures { λ _. ⌜ now (output .exit) ≡ sets (now (output .entry)) 2 (bodyWords 0 (channelsOf (elements single (now (source .entry))))) ⌝ }
+{
+    let mut k: usize = 0;
+    while k < source.len() {
+        output[BODY_START + k] = word_of(k, single_to_channel(source[k]));
+        k += 1;
+    }
+}
+
+// A picture of single floats, 32 bits each, into the strip of a page; a refusal leaves the output as it was.
+pub fn convert_single(source: &[u32], header: Header, output: &mut [u32]) -> Verdict
+    ensures verdict { λ r. ⌜ r ≡ checkSource single header (now (source .entry)) (length (now (output .entry))) ⌝ }
+    ensures content { λ r. ⌜ now (output .exit) ≡ after r (converted single header (now (source .entry))) (now (output .entry)) ⌝ }
+{
+    let page = check_page(header, 3, source.len(), output.len());
+    let Verdict::Accepted = page else {
+        return page;
+    };
+    let elements = check_single(source);
+    let Verdict::Accepted = elements else {
+        return elements;
+    };
+    store_single(source, output);
+    store_frame(header, output);
+    Verdict::Accepted
+}

@@ -2,11 +2,11 @@
 -- Assumes nothing.
 use borrow.Author.Needs.{needs}
 use Prim.Native.Nat.{_-_}
-use mathlib.Core.Path.{_≡_, sym, _∙_}
+use mathlib.Core.Path.{_≡_}
 use native.Mathlib.Nat.{zero-add}
 use lib.ListN.{length}
 use Rattle.strip.specs.Placing.{firstRefusal}
-use Rattle.strip.proofs.Walks.{checking, checking-pass, checking-stop, checking-done, checking-all}
+use Rattle.strip.proofs.Walks.{checking, checking-all, checking-next, checking-refused, checking-done}
 use Rattle.convert.specs.Formats.{stored, storedElement, elements}
 use Rattle.convert.proofs.stored.check_stored.Statement.{statement}
 use Rattle.convert.proofs.stored.check_stored.Tie as tie
@@ -20,19 +20,18 @@ abbrev μ-loop : tie.MeasureT-loop
 returns : tie.Need-returns Inv-loop μ-loop
 returns c =
     let b = c .before .before .before in
-    let l = b .before .before .before .loop in
-    let told = c .before .enum-told2 .given .1 in
-    let stop = checking-stop _ _ _ _ (b .before .before .loop-test .taken) (sym (b .code-to-channel .ensures) ∙ told) in
-    simp (c .verdict-at .ensures, told) (rw (zero-add (l .k)) at (sym stop ∙ l .inv))
+    let t = b .before .before in
+    checking-refused _ _ _ _ (t .before .loop .inv) (t .loop-test .taken) (b .code-to-channel .ensures) (zero-add _) (c .verdict-at .ensures)
+    (c .before .enum-told2 .given .1)
 
 loop-again : tie.Need-loop-again Inv-loop μ-loop
 loop-again c =
     let b = c .before .before in
-    let pass = checking-pass _ _ _ _ (b .before .before .loop-test .taken) (sym (b .code-to-channel .ensures) ∙ c .enum-told .given .1) in
-    sym pass ∙ b .before .before .before .loop .inv
+    let t = b .before .before in
+    checking-next _ _ _ _ (t .before .loop .inv) (t .loop-test .taken) (b .code-to-channel .ensures) (c .enum-told .given .1)
 
 returns-2 : tie.Need-returns-2 Inv-loop μ-loop
-returns-2 c = sym (checking-done _ _ _ _ (c .loop-test .left)) ∙ c .before .loop .inv
+returns-2 c = checking-done _ _ _ _ (c .before .loop .inv) (c .loop-test .left)
 
 pub check-stored-spec : {M : Type 1} → statement M
 check-stored-spec =

@@ -1,12 +1,12 @@
 -- `convert::stored::store_stored` meets its contract: at each turn the words that are left give the whole. Assumes nothing.
 use borrow.Author.Needs.{needs}
 use Prim.Native.Nat.{_-_}
-use mathlib.Core.Path.{_≡_, refl, sym, _∙_}
-use lib.ListN.{length, length-set}
+use mathlib.Core.Path.{_≡_, refl}
+use lib.ListN.{length}
 use lib.Seq.{sets}
 use Rattle.strip.specs.Words.{bodyWords}
 use Rattle.strip.specs.Placing.{channelsOf}
-use Rattle.strip.proofs.Walks.{writing, writing-step, writing-done, writing-all}
+use Rattle.strip.proofs.Walks.{writing, writing-all, writing-next, writing-done}
 use Rattle.convert.specs.Formats.{stored, storedElement, elements}
 use Rattle.convert.proofs.stored.store_stored.Statement.{statement}
 use Rattle.convert.proofs.stored.store_stored.Tie as tie
@@ -20,12 +20,12 @@ abbrev μ-loop : tie.MeasureT-loop
 
 loop-again : tie.Need-loop-again Inv-loop μ-loop
 loop-again c =
-    let l = c .before .before .before .before .loop in
-    let word = rw (c .before .code-to-channel .ensures) at (c .word-of .ensures) in
-    (simp length-set (l .inv .0), sym (writing-step _ _ _ (l .output) _ (c .before .before .before .loop-test .taken) word) ∙ l .inv .1)
+    let t = c .before .before .before in
+    writing-next _ _ _ (t .before .loop .output) (t .before .loop .inv) (t .loop-test .taken) (c .before .code-to-channel .ensures)
+    (c .word-of .ensures)
 
 returns : tie.Need-returns Inv-loop μ-loop
-returns c = sym (writing-done _ _ _ _ (c .loop-test .left)) ∙ c .before .loop .inv .1
+returns c = writing-done _ _ _ _ (c .before .loop .inv) (c .loop-test .left)
 
 pub store-stored-spec : {M : Type 1} → statement M
 store-stored-spec =

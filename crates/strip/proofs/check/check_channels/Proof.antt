@@ -1,11 +1,11 @@
 -- `strip::check::check_channels` meets its contract: at each turn the verdict on the words that are left is that on all. Assumes nothing.
 use borrow.Author.Needs.{needs}
 use Prim.Native.Nat.{_-_}
-use mathlib.Core.Path.{_≡_, sym, _∙_}
+use mathlib.Core.Path.{_≡_, refl}
 use lib.ListN.{length}
 use Rattle.strip.specs.Placing.{placed, firstRefusal}
 use Rattle.strip.specs.Checks.{decodeWord}
-use Rattle.strip.proofs.Walks.{checking, checking-pass, checking-stop, checking-done, checking-all}
+use Rattle.strip.proofs.Walks.{checking, checking-all, checking-next, checking-refused, checking-done}
 use Rattle.strip.proofs.check.check_channels.Statement.{statement}
 use Rattle.strip.proofs.check.check_channels.Tie as tie
 
@@ -18,19 +18,18 @@ abbrev μ-loop : tie.MeasureT-loop
 returns : tie.Need-returns Inv-loop μ-loop
 returns c =
     let b = c .before .before .before in
-    let l = b .before .before .before in
-    let told = c .before .enum-told2 .given .1 in
-    simp (c .verdict-at .ensures, told)
-    (sym (checking-stop _ _ _ _ (b .before .before .loop-test .taken) (sym (b .decode-word .ensures) ∙ told)) ∙ l .loop .inv)
+    let t = b .before .before in
+    checking-refused _ _ _ _ (t .before .loop .inv) (t .loop-test .taken) (b .decode-word .ensures) refl (c .verdict-at .ensures)
+    (c .before .enum-told2 .given .1)
 
 loop-again : tie.Need-loop-again Inv-loop μ-loop
 loop-again c =
     let b = c .before .before in
-    let l = b .before .before .before in
-    sym (checking-pass _ _ _ _ (b .before .before .loop-test .taken) (sym (b .decode-word .ensures) ∙ c .enum-told .given .1)) ∙ l .loop .inv
+    let t = b .before .before in
+    checking-next _ _ _ _ (t .before .loop .inv) (t .loop-test .taken) (b .decode-word .ensures) (c .enum-told .given .1)
 
 returns-2 : tie.Need-returns-2 Inv-loop μ-loop
-returns-2 c = sym (checking-done _ _ _ _ (c .loop-test .left)) ∙ c .before .loop .inv
+returns-2 c = checking-done _ _ _ _ (c .before .loop .inv) (c .loop-test .left)
 
 pub check-channels-spec : {M : Type 1} → statement M
 check-channels-spec =

@@ -1,12 +1,12 @@
 -- `strip::unpack::store_codes` meets its contract: at each turn the stores that are left give the whole. Assumes nothing.
 use borrow.Author.Needs.{needs}
 use Prim.Native.Nat.{_-_}
-use mathlib.Core.Path.{_≡_, refl, sym, _∙_}
+use mathlib.Core.Path.{_≡_, refl, _∙_}
 use mathlib.Core.List.{map}
-use lib.ListN.{length, length-set, length-map, List·getD-map}
+use lib.ListN.{length, length-map, List·getD-map}
 use Rattle.strip.specs.Checks.{low16}
 use Rattle.strip.specs.Output.{onto}
-use Rattle.strip.proofs.Walks.{storing, storing-step, storing-done, storing-all, sets-front}
+use Rattle.strip.proofs.Walks.{storing, storing-all, storing-next, storing-done, sets-front}
 use Rattle.strip.proofs.unpack.store_codes.Statement.{statement}
 use Rattle.strip.proofs.unpack.store_codes.Tie as tie
 
@@ -22,14 +22,12 @@ loop-holds c = (refl, storing-all _ _ _ ∙ sets-front (map low16 (c .args .word
 
 loop-again : tie.Need-loop-again Inv-loop μ-loop
 loop-again c =
-    let l = c .before .before .loop in
-    let ws = c .before .before .before .args .words .now in (
-      simp length-set (l .inv .0),
-      sym (storing-step _ _ _ (l .output) _ (rw length-map (c .before .loop-test .taken)) (List·getD-map low16 ws _ 0)) ∙ l .inv .1,
-    )
+    let t = c .before in
+    let ws = t .before .before .args .words .now in
+    storing-next _ _ _ (t .before .loop .output) (t .before .loop .inv) (rw length-map (t .loop-test .taken)) (List·getD-map low16 ws _ 0)
 
 returns : tie.Need-returns Inv-loop μ-loop
-returns c = sym (storing-done _ _ _ _ (rw length-map (c .loop-test .left))) ∙ c .before .loop .inv .1
+returns c = storing-done _ _ _ _ (c .before .loop .inv) (rw length-map (c .loop-test .left))
 
 pub store-codes-spec : {M : Type 1} → statement M
 store-codes-spec =

@@ -1,0 +1,36 @@
+-- `convert::half::store_half` meets its contract: at each turn the words that are left give the whole. Assumes nothing.
+use borrow.Author.Needs.{needs}
+use Prim.Native.Nat.{_-_}
+use mathlib.Core.Path.{_≡_, refl}
+use lib.ListN.{length}
+use lib.Seq.{sets}
+use Rattle.strip.specs.Words.{bodyWords}
+use Rattle.strip.specs.Placing.{channelsOf}
+use Rattle.strip.proofs.Walks.{writing, writing-all, writing-next, writing-done}
+use Rattle.convert.specs.Formats.{half, halfElement, elements}
+use Rattle.convert.proofs.half.store_half.Statement.{statement}
+use Rattle.convert.proofs.half.store_half.Tie as tie
+
+abbrev Inv-loop : tie.InvT-loop
+Inv-loop source output₀ k₀ output k =
+    (length output ≡ length output₀) × (writing halfElement source k output ≡ sets output₀ 2 (bodyWords 0 (channelsOf (elements half source))))
+
+abbrev μ-loop : tie.MeasureT-loop
+μ-loop source output₀ k₀ output k = length source - k
+
+loop-again : tie.Need-loop-again Inv-loop μ-loop
+loop-again c =
+    let t = c .before .before .before in
+    writing-next _ _ _ (t .before .loop .output) (t .before .loop .inv) (t .loop-test .taken) (c .before .half-to-channel .ensures)
+    (c .word-of .ensures)
+
+returns : tie.Need-returns Inv-loop μ-loop
+returns c = writing-done _ _ _ _ (c .before .loop .inv) (c .loop-test .left)
+
+pub store-half-spec : {M : Type 1} → statement M
+store-half-spec =
+    tie.close
+    (tie.spec
+    Inv-loop μ-loop (λ c. (refl, writing-all _ _ _)) (λ c. search needs) (λ c. search needs) (λ c κs. search needs)
+    (λ c κs. search needs) (λ c. search needs) (λ c. search needs) (λ c. search needs) (λ c. search needs) (λ c. search needs) loop-again (λ c. search needs)
+    returns)
