@@ -1,10 +1,11 @@
 -- The source pictures, and the channels that stand in them. Assumes nothing.
 use Prim.Native.Nat.{ℕ, _+_}
-use mathlib.Core.List.{List, [], _∷_}
+use mathlib.Core.List.{List, [], _∷_, _++_}
 use Rattle.number.specs.declared.channel.Decoded.{Decoded}
-use Rattle.number.specs.Channels.{channelOfCode}
+use Rattle.number.specs.Channels.{codeOf, channelOfCode}
 use Rattle.number.specs.Sources.{channelOfValue, halfValue, singleValue, rgbeValue}
-use Rattle.strip.specs.Placing.{Placed, placed}
+use Rattle.strip.specs.Words.{channelWord}
+use Rattle.strip.specs.Placing.{Placed, placed, channelIn}
 
 -- "RGBE", "Half", "single", "Stored"
 pub data Format : Type 0 where
@@ -34,14 +35,21 @@ storedElement k n = channelOfCode n
 abbrev pub rgbeElement : (i m e : ℕ) → Placed
 rgbeElement i m e = record { index = i; decoded = channelOfValue (rgbeValue m e) }
 
--- RGBE pixels, the first of which begins at the byte of index i; bytes that are no whole pixel stand for nothing
+-- the pixel whose bytes begin at the index i
+abbrev pub rgbePixel : (i r g b e : ℕ) → List Placed
+rgbePixel i r g b e = rgbeElement i r e ∷ rgbeElement (i + 1) g e ∷ rgbeElement (i + 2) b e ∷ []
+
+-- the word of channel k of a page that comes from byte m beside the exponent byte e
+abbrev pub rgbeWord : (k m e : ℕ) → ℕ
+rgbeWord k m e = channelWord k (codeOf (channelIn (channelOfValue (rgbeValue m e))))
+
+-- the pixels from the index i on; bytes that are no whole pixel stand for nothing
 abbrev pub rgbePixels : (i : ℕ) → List ℕ → List Placed
 rgbePixels i [] = []
 rgbePixels i (r ∷ []) = []
 rgbePixels i (r ∷ g ∷ []) = []
 rgbePixels i (r ∷ g ∷ b ∷ []) = []
-rgbePixels i (r ∷ g ∷ b ∷ e ∷ bytes) =
-    rgbeElement i r e ∷ rgbeElement (i + 1) g e ∷ rgbeElement (i + 2) b e ∷ rgbePixels (i + 4) bytes
+rgbePixels i (r ∷ g ∷ b ∷ e ∷ bytes) = rgbePixel i r g b e ++ rgbePixels (i + 4) bytes
 
 -- the channels of a picture in order
 abbrev pub elements : Format → List ℕ → List Placed

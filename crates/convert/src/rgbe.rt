@@ -1,1 +1,101 @@
-// x
+// A picture of RGBE pixels into a strip.
+ghost use mathlib.Core.Path.{_≡_};
+ghost use Prim.Native.Nat.{_+_, _*_, _/_, _^_, _≤_, _<_};
+ghost use lib.ListN.{length, set};
+ghost use lib.Seq.{sets};
+ghost use Rattle.strip.specs.Words.{bodyWords};
+ghost use Rattle.strip.specs.Placing.{firstRefusal, channelsOf};
+ghost use Rattle.strip.specs.Output.{after};
+ghost use Rattle.convert.specs.Formats.{rgbe, rgbePixel, rgbeWord, elements};
+ghost use Rattle.convert.specs.Converting.{checkSource, converted};
+use crate::frame::check_page;
+use crate::frame::store_frame;
+use crate::frame::word_of;
+use number::channel::Decoded;
+use number::source::rgbe_to_channel;
+use refusal::Verdict;
+use strip::check::BODY_START;
+use strip::check::verdict_at;
+use strip::header::Header;
+
+// The first channel of a pixel that is too bright; its bytes begin at the index i.
+fn check_pixel(i: usize, red: u8, green: u8, blue: u8, exponent: u8) -> Verdict
+    requires { ⌜ i + 2 < 2 ^ 64 ⌝ }
+    ensures { λ r. ⌜ r ≡ firstRefusal (rgbePixel i red green blue exponent) ⌝ }
+{
+    let first = rgbe_to_channel(red, exponent);
+    let Decoded::Holds(_) = first else {
+        return verdict_at(i, first);
+    };
+    let second = rgbe_to_channel(green, exponent);
+    let Decoded::Holds(_) = second else {
+        return verdict_at(i + 1, second);
+    };
+    verdict_at(i + 2, rgbe_to_channel(blue, exponent))
+}
+
+// The first channel that is too bright.
+fn check_rgbe(source: &[u8]) -> Verdict
+    ensures { λ r. ⌜ r ≡ firstRefusal (elements rgbe (now (source .entry))) ⌝ }
+{
+    let pixels = source.len() / 4;
+    let mut p: usize = 0;
+    while p < pixels {
+        let at = 4 * p;
+        let pixel = check_pixel(at, source[at], source[at + 1], source[at + 2], source[at + 3]);
+        let Verdict::Accepted = pixel else {
+            return pixel;
+        };
+        p += 1;
+    }
+    Verdict::Accepted
+}
+
+// The words of a pixel whose red channel is channel k.
+fn store_pixel(k: usize, red: u8, green: u8, blue: u8, exponent: u8, output: &mut [u32])
+    requires { ⌜ 2 + k + 2 < length (now output) ⌝ }
+    ensures { λ _. ⌜ now (output .exit) ≡ set (set (set (now (output .entry)) (2 + k) (rgbeWord k red exponent)) (2 + k + 1) (rgbeWord (k + 1) green exponent)) (2 + k + 2) (rgbeWord (k + 2) blue exponent) ⌝ }
+{
+    output[BODY_START + k] = word_of(k, rgbe_to_channel(red, exponent));
+    output[BODY_START + k + 1] = word_of(k + 1, rgbe_to_channel(green, exponent));
+    output[BODY_START + k + 2] = word_of(k + 2, rgbe_to_channel(blue, exponent));
+}
+
+// The channel words, behind the header words.
+fn store_rgbe(source: &[u8], output: &mut [u32])
+    requires { ⌜ 2 + 3 * (length (now source) / 4) ≤ length (now output) ⌝ }
+    ensures { λ _. ⌜ now (output .exit) ≡ sets (now (output .entry)) 2 (bodyWords 0 (channelsOf (elements rgbe (now (source .entry))))) ⌝ }
+{
+    let pixels = source.len() / 4;
+    let mut p: usize = 0;
+    while p < pixels {
+        let at = 4 * p;
+        store_pixel(
+            3 * p,
+            source[at],
+            source[at + 1],
+            source[at + 2],
+            source[at + 3],
+            output,
+        );
+        p += 1;
+    }
+}
+
+// A picture of RGBE pixels, four bytes each, into the strip of a page; a refusal leaves the output as it was.
+pub fn convert_rgbe(source: &[u8], header: Header, output: &mut [u32]) -> Verdict
+    ensures verdict { λ r. ⌜ r ≡ checkSource rgbe header (now (source .entry)) (length (now (output .entry))) ⌝ }
+    ensures content { λ r. ⌜ now (output .exit) ≡ after r (converted rgbe header (now (source .entry))) (now (output .entry)) ⌝ }
+{
+    let page = check_page(header, 4, source.len(), output.len());
+    let Verdict::Accepted = page else {
+        return page;
+    };
+    let elements = check_rgbe(source);
+    let Verdict::Accepted = elements else {
+        return elements;
+    };
+    store_rgbe(source, output);
+    store_frame(header, output);
+    Verdict::Accepted
+}

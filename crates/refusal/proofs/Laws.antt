@@ -28,3 +28,14 @@ require-met r i e f = rw (e, f)
 pub and-met : {v w : Verdict} → v ≡ Accepted → w ≡ Accepted → andThen v w ≡ Accepted
 unfolding andThen
 and-met e f = rw (e, f)
+
+-- three chains, one behind another
+pub and-assoc : (u v w : Verdict) → andThen (andThen u v) w ≡ andThen u (andThen v w)
+unfolding andThen
+and-assoc Accepted v w = refl
+and-assoc (Refused r i) v w = refl
+
+pub and-last : (v : Verdict) → andThen v Accepted ≡ v
+unfolding andThen
+and-last Accepted = refl
+and-last (Refused r i) = refl

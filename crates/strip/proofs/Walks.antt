@@ -1,7 +1,7 @@
 -- Loops over a row: one that checks each element, one that stores each. Assumes nothing.
 use Prim.Native.Nat.{ℕ, zero, suc, _+_, _<_, _≤_}
 use mathlib.Core.Path.{_≡_, refl, sym, ap, _∙_}
-use mathlib.Core.List.{List, [], _∷_}
+use mathlib.Core.List.{List, [], _∷_, _++_}
 use native.Mathlib.Numerals.{add-one}
 use native.Mathlib.Nat.{zero-add, le-of-suc-le-suc, not-suc-le-zero}
 use native.Mathlib.Omega.{arith}
@@ -15,9 +15,10 @@ use Rattle.refusal.specs.declared.Refusal.{Refusal}
 use Rattle.refusal.specs.declared.Verdict.{Verdict}
 use Rattle.refusal.specs.declared.Verdict.the-variants.{Accepted, Refused}
 use Rattle.refusal.specs.Verdicts.{andThen}
+use Rattle.refusal.proofs.Laws.{and-assoc}
 use Rattle.number.specs.Channels.{codeOf}
 use Rattle.strip.specs.Words.{channelWord, bodyWords}
-use Rattle.strip.specs.Placing.{placed, verdictAt, firstRefusal, channelIn, channelsOf}
+use Rattle.strip.specs.Placing.{Placed, placed, verdictAt, firstRefusal, channelIn, channelsOf}
 use Rattle.strip.specs.Output.{onto}
 
 -- ---- A loop that checks: at each turn the verdict on the elements that are left, from number i on, is that on all.
@@ -46,6 +47,12 @@ module _ (f : ℕ → ℕ → Decoded) (start : ℕ) (xs : List ℕ) (i : ℕ) {
   pub checking-done : length xs ≤ i → Accepted ≡ all
   unfolding checking
   checking-done h = rw (drop-of-length-le xs h) at inv
+
+-- the first refusal of two rows, one behind the other
+pub refusal-append : (ps qs : List Placed) → firstRefusal (ps ++ qs) ≡ andThen (firstRefusal ps) (firstRefusal qs)
+unfolding andThen
+refusal-append [] qs = refl
+refusal-append (p ∷ ps) qs = rw (refusal-append ps qs, and-assoc (verdictAt (p .index) (p .decoded)) (firstRefusal ps) (firstRefusal qs))
 
 -- ---- A loop that stores: at each turn the output, once all that are left are stored too, is the one that is meant.
 
