@@ -19,7 +19,7 @@ use Rattle.strip.specs.declared.header.Header.{Header}
 use Rattle.strip.specs.Words.{pixels, sizeFits, keyFits, sizeWord, keyWord, bodyWords, endWord, stripOf}
 use Rattle.strip.specs.Placing.{Placed, placed, firstRefusal, channelIn, channelsOf}
 use Rattle.strip.specs.Output.{onto, after}
-use Rattle.strip.proofs.Walks.{sets-front, length-words}
+use Rattle.strip.proofs.Walks.{sets-front, length-placed, length-words}
 use Rattle.convert.specs.Formats.{Format, rgbe, half, single, stored, perPixel, rgbePixels, elements}
 use Rattle.convert.specs.Converting.{checkPage, checkSource, converted}
 
@@ -43,10 +43,6 @@ page h per count room e =
     }
 
 -- ---- three channels a pixel
-
-length-placed : (f : ℕ → ℕ → Decoded) (start k : ℕ) (xs : List ℕ) → length (placed f start k xs) ≡ length xs
-length-placed f start k [] = refl
-length-placed f start k (x ∷ xs) = ap suc (length-placed f start (suc k) xs)
 
 length-pixels : (i n : ℕ) (xs : List ℕ) → length xs ≡ 4 * n → length (rgbePixels i xs) ≡ 3 * n
 length-pixels i zero [] e = refl

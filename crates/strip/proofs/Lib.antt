@@ -1,3 +1,4 @@
 pub mod Walks
 pub mod Limits
 pub mod Bodies
+pub mod RoundTrip

@@ -96,6 +96,12 @@ module _ (f : ℕ → ℕ → Decoded) (xs : List ℕ) (i : ℕ) (t : List ℕ) 
   unfolding writing
   writing-done h = rw (drop-of-length-le xs h) at (inv .1)
 
+-- ---- lengths
+
+pub length-placed : (f : ℕ → ℕ → Decoded) (start k : ℕ) (xs : List ℕ) → length (placed f start k xs) ≡ length xs
+length-placed f start k [] = refl
+length-placed f start k (x ∷ xs) = ap suc (length-placed f start (suc k) xs)
+
 pub length-words : (k : ℕ) (cs : List Channel) → length (bodyWords k cs) ≡ length cs
 length-words k [] = refl
 length-words k (c ∷ cs) = ap suc (length-words (suc k) cs)

@@ -1,0 +1,219 @@
+-- A strip and the header and channels that it is written from determine each other. Assumes nothing.
+use Prim.Native.Nat.{ℕ, suc, _+_, _*_, _/_, _%_, _^_, _<_, _≤_}
+use mathlib.Core.Path.{_≡_, refl, sym, ap, _∙_}
+use mathlib.Core.List.{List, [], _∷_, _++_, map}
+use mathlib.Core.Bool.{true}
+use native.Mathlib.Omega.{arith}
+use borrow.Author.Tests.{eq-eqb, le-leb}
+use lib.ListN.{length, getD, take, drop, length-map, length-append, length-drop, drop-of-length-le}
+use lib.Seq.{take-at, getD-at, split-at, length-take-le}
+use Rattle.number.specs.declared.channel.Channel.{Channel}
+use Rattle.number.specs.declared.channel.Channel.the-variants.{Black, Lit}
+use Rattle.number.specs.declared.channel.Decoded.{Decoded}
+use Rattle.number.specs.declared.channel.Decoded.the-variants.{Holds}
+use Rattle.number.specs.Channels.{IsChannel, codeOf, channelOfCode}
+use Rattle.number.proofs.Laws.{code-channel}
+use Rattle.refusal.specs.declared.Verdict.{Verdict}
+use Rattle.refusal.specs.declared.Verdict.the-variants.{Accepted}
+use Rattle.refusal.specs.Verdicts.{andThen}
+use Rattle.refusal.proofs.Laws.{and-passed, and-met, require-met}
+use Rattle.strip.specs.declared.header.Header.{Header}
+use Rattle.strip.specs.Words.{
+  pixels,
+  sizeFits,
+  keyFits,
+  sizeWord,
+  keyWord,
+  channelWord,
+  bodyWords,
+  endWord,
+  stripOf,
+}
+use Rattle.strip.specs.Placing.{Placed, placed, verdictAt, firstRefusal, channelIn, channelsOf}
+use Rattle.strip.specs.Checks.{
+  wordAt,
+  widthIn,
+  heightIn,
+  low16,
+  headerIn,
+  channelCount,
+  endIndex,
+  declaredLength,
+  bodyIn,
+  body,
+  decodeWord,
+  checkSizeWord,
+  checkKeyWord,
+  checkHead,
+  checkBody,
+  checkWith,
+}
+use Rattle.strip.specs.Reading.{channelsIn}
+use Rattle.strip.proofs.Walks.{length-placed, length-words}
+use Rattle.strip.proofs.Limits.{Sized, size-limits, Keyed, key-limits, Head, Whole}
+use Rattle.strip.proofs.Bodies.{holds, is-word}
+
+-- ---- rows of elements that are read as channels, whatever f reads in one
+
+-- every channel of a list is one
+pub All : List Channel → Type 0
+All [] = Unit
+All (c ∷ cs) = IsChannel c × All cs
+
+pub channels-valid : (f : ℕ → ℕ → Decoded) → ((k x : ℕ) (c : Channel) → f k x ≡ Holds c → IsChannel c) → (start k : ℕ) (xs : List ℕ)
+    → firstRefusal (placed f start k xs) ≡ Accepted → All (channelsOf (placed f start k xs))
+unfolding All
+channels-valid f valid start k [] e = tt
+channels-valid f valid start k (x ∷ xs) e =
+    let q = and-passed _ _ e in
+    (valid k x _ (holds _ _ (q .0)), channels-valid f valid start (suc k) xs (q .1))
+
+pub record ReadAs (f : ℕ → ℕ → Decoded) (start k : ℕ) (xs : List ℕ) (cs : List Channel) : Type 0 where
+  pub accepted : firstRefusal (placed f start k xs) ≡ Accepted
+  pub channels : channelsOf (placed f start k xs) ≡ cs
+
+-- a row that holds g k c for each channel c, from which f reads c again
+module _
+    (f : ℕ → ℕ → Decoded)
+    (g : ℕ → Channel → ℕ)
+    (row : ℕ → List Channel → List ℕ)
+    (none : (k : ℕ) → row k [] ≡ [])
+    (one : (k : ℕ) (c : Channel) (cs : List Channel) → row k (c ∷ cs) ≡ g k c ∷ row (suc k) cs)
+    (read : (k : ℕ) (c : Channel) → IsChannel c → f k (g k c) ≡ Holds c) where
+  pub row-read : (start k : ℕ) (cs : List Channel) → All cs → ReadAs f start k (row k cs) cs
+  unfolding All
+  row-read start k [] t = rw (none k) (record { accepted = refl; channels = refl })
+  row-read start k (c ∷ cs) t =
+      let e = read k c (t .0) in
+      let q = row-read start (suc k) cs (t .1) in
+      rw (one k c cs) (record { accepted = rw e (and-met refl (q .accepted)); channels = rw (e, q .channels) })
+
+-- ---- the words of channels are read as these channels, and accepted words are the words of their channels
+
+code-small : (c : Channel) → IsChannel c → codeOf c < 2 ^ 16
+code-small Black t = omega arith
+code-small (Lit E M) t = omega (arith, t .most, t .mantissa .most)
+
+word-read : (k : ℕ) (c : Channel) → IsChannel c → decodeWord k (channelWord k (codeOf c)) ≡ Holds c
+unfolding decodeWord
+word-read k c t =
+    let small = code-small c t in
+    let low : low16 (channelWord k (codeOf c)) ≡ codeOf c = omega arith in
+    simp (low, eq-eqb (channelWord k (codeOf c)) (channelWord k (codeOf c)) refl) (code-channel c t)
+
+words-read : (start k : ℕ) (cs : List Channel) → All cs → ReadAs decodeWord start k (bodyWords k cs) cs
+words-read = row-read decodeWord (λ k c. channelWord k (codeOf c)) bodyWords (λ k. refl) (λ k c cs. refl) word-read
+
+words-written : (start k : ℕ) (ws : List ℕ) → firstRefusal (placed decodeWord start k ws) ≡ Accepted
+    → bodyWords k (channelsOf (placed decodeWord start k ws)) ≡ ws
+words-written start k [] e = refl
+words-written start k (w ∷ ws) e =
+    let q = and-passed _ _ e in
+    let w₁ = is-word k w (holds _ _ (q .0)) in
+    rw (w₁ .coded .code, ← w₁ .written, words-written start (suc k) ws (q .1))
+
+word-valid : (k w : ℕ) (c : Channel) → decodeWord k w ≡ Holds c → IsChannel c
+word-valid k w c e = is-word k w e .coded .valid
+
+-- ---- a strip that was written
+
+-- a header within its limits, with three channels a pixel
+pub record IsPage (h : Header) (cs : List Channel) : Type 0 where
+  pub size : sizeFits (h .width) (h .height) ≡ true
+  pub key : keyFits (h .key) ≡ true
+  pub count : length cs ≡ 3 * pixels h
+  pub valid : All cs
+
+module _ (h : Header) (cs : List Channel) (ok : IsPage h cs) where
+  width-read : widthIn (sizeWord (h .width) (h .height)) ≡ h .width
+  width-read = let q = size-limits _ _ (ok .size) in omega (arith, q .width, q .height)
+
+  height-read : heightIn (sizeWord (h .width) (h .height)) ≡ h .height
+  height-read = let q = size-limits _ _ (ok .size) in omega (arith, q .width, q .height)
+
+  key-read : low16 (keyWord (h .key)) ≡ h .key
+  key-read = let q = key-limits _ (ok .key) in omega (arith, q .most)
+
+  pub header-written : headerIn (stripOf h cs) ≡ h
+  header-written = rw (width-read, height-read, key-read)
+
+  words-long : length (bodyWords 0 cs) ≡ 3 * pixels h
+  words-long = length-words 0 cs ∙ ok .count
+
+  length-written : length (stripOf h cs) ≡ 3 * pixels h + 3
+  length-written = rw (length-append (bodyWords 0 cs) (endWord (pixels h) ∷ []), words-long) (omega arith)
+
+  body-written : bodyIn (stripOf h cs) ≡ bodyWords 0 cs
+  body-written = rw (width-read, height-read) (take-at (bodyWords 0 cs) (endWord (pixels h) ∷ []) (3 * pixels h) words-long)
+
+  end-written : wordAt (stripOf h cs) (endIndex (stripOf h cs)) ≡ endWord (pixels (headerIn (stripOf h cs)))
+  end-written =
+      let e : 2 + 3 * pixels h ≡ suc (suc (3 * pixels h)) = omega arith in
+      rw (width-read, height-read, e) (getD-at (bodyWords 0 cs) (endWord (pixels h)) [] 0 (3 * pixels h) words-long)
+
+  head-accepted : checkHead (stripOf h cs) ≡ Accepted
+  unfolding checkHead checkSizeWord checkKeyWord
+  head-accepted =
+      let s = stripOf h cs in
+      let n = length-written in
+      let size : wordAt s 0 ≡ sizeWord (headerIn s .width) (headerIn s .height) = rw (width-read, height-read) in
+      let key : wordAt s 1 ≡ keyWord (headerIn s .key) = rw key-read in
+      let long : length s ≡ declaredLength s = rw (width-read, height-read) (omega arith) in
+      require-met _ _ (le-leb 2 (length s) (omega arith))
+      (and-met (require-met _ _ (eq-eqb _ _ size) (require-met _ _ (rw (width-read, height-read) (ok .size)) refl))
+      (and-met (require-met _ _ (eq-eqb _ _ key) (require-met _ _ (rw key-read (ok .key)) refl))
+      (require-met _ _ (eq-eqb _ _ long) refl)))
+
+  read : ReadAs decodeWord 2 0 (bodyWords 0 cs) cs
+  read = words-read 2 0 cs (ok .valid)
+
+  body-accepted : checkBody (stripOf h cs) ≡ Accepted
+  unfolding checkBody
+  body-accepted =
+      and-met (rw body-written (read .accepted)) (require-met _ _ (eq-eqb _ _ end-written) refl)
+
+  -- what was written is accepted, whatever a call adds that is accepted
+  pub written-accepted : (added : Verdict) → added ≡ Accepted → checkWith added (stripOf h cs) ≡ Accepted
+  unfolding checkWith
+  written-accepted added e = and-met head-accepted (and-met e body-accepted)
+
+  pub channels-written : channelsIn (stripOf h cs) ≡ cs
+  channels-written = rw body-written (read .channels)
+
+-- ---- a strip that was accepted
+
+-- n elements and one more
+split-last : (n : ℕ) (xs : List ℕ) → length xs ≡ n + 1 → take n xs ++ (getD xs n 0 ∷ []) ≡ xs
+split-last n xs e =
+    let inside : n < length xs = omega arith in
+    let none : length xs ≤ suc n = omega arith in
+    sym (split-at xs n 0 inside ∙ rw (drop-of-length-le xs none))
+
+-- it is the strip of its header and channels
+pub same-words : (s : List ℕ) → Whole s → stripOf (headerIn s) (channelsIn s) ≡ s
+same-words [] q = absurd (omega (arith, q .head .long))
+same-words (a ∷ []) q = absurd (omega (arith, q .head .long))
+same-words (a ∷ b ∷ xs) q =
+    let n = 3 * (widthIn a * heightIn a) in
+    let e : 2 + n ≡ suc (suc n) = omega arith in
+    let last : getD xs n 0 ≡ endWord (widthIn a * heightIn a) = rw e at (q .end) in
+    rw (
+      ← q .head .size,
+      ← q .head .key,
+      words-written 2 0 (take n xs) (q .channels),
+      ← last,
+      split-last n xs (omega (arith, q .head .long)),
+    )
+
+pub page-read : (s : List ℕ) → Whole s → IsPage (headerIn s) (channelsIn s)
+page-read s q =
+    let n = q .head .long in
+    let fits : channelCount s ≤ length (drop 2 s) = rw length-drop (omega arith) in
+    let count : length (channelsIn s) ≡ channelCount s =
+    length-map (body s) (λ (p : Placed). channelIn (p .decoded)) ∙ length-placed _ 2 0 (bodyIn s) ∙ length-take-le (channelCount s) (drop 2 s) fits in
+    record {
+      size = q .head .size-fits;
+      key = q .head .key-fits;
+      count = count;
+      valid = channels-valid decodeWord word-valid 2 0 (bodyIn s) (q .channels);
+    }
