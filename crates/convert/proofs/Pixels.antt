@@ -26,7 +26,10 @@ four xs i h =
     let c : i + 3 ≡ suc (suc (suc i)) = omega arith in
     let d : i + 4 ≡ suc (suc (suc (suc i))) = omega arith in
     rw (
-      a, b, c, d,
+      a,
+      b,
+      c,
+      d,
       drop-cons xs i 0 (omega arith),
       drop-cons xs (suc i) 0 (omega arith),
       drop-cons xs (suc (suc i)) 0 (omega arith),
@@ -94,12 +97,12 @@ writing-all xs t = refl
 module _ (xs : List ℕ) (p : ℕ) (t : List ℕ) {n : ℕ} {u : List ℕ} (inv : (length t ≡ n) × (writing xs p t ≡ u)) where
   pub writing-next : p < length xs / 4
       → let i = 4 * p in
-        let k = 3 * p in
-        let e = getD xs (i + 3) 0 in
-        let red = set t (2 + k) (rgbeWord k (getD xs i 0) e) in
-        let green = set red (2 + k + 1) (rgbeWord (k + 1) (getD xs (i + 1) 0) e) in
-        let blue = set green (2 + k + 2) (rgbeWord (k + 2) (getD xs (i + 2) 0) e) in
-        (length blue ≡ n) × (writing xs (p + 1) blue ≡ u)
+      let k = 3 * p in
+      let e = getD xs (i + 3) 0 in
+      let red = set t (2 + k) (rgbeWord k (getD xs i 0) e) in
+      let green = set red (2 + k + 1) (rgbeWord (k + 1) (getD xs (i + 1) 0) e) in
+      let blue = set green (2 + k + 2) (rgbeWord (k + 2) (getD xs (i + 2) 0) e) in
+      (length blue ≡ n) × (writing xs (p + 1) blue ≡ u)
   unfolding writing
   writing-next inside =
       let k = 3 * p in

@@ -5,9 +5,10 @@ use mathlib.Core.List.{List}
 use lib.ListN.{length}
 use Rattle.refusal.specs.declared.Verdict.the-variants.{Accepted}
 use Rattle.strip.specs.declared.header.Header.{Header}
+use Rattle.strip.specs.declared.header.Headed.the-variants.{Holds}
 use Rattle.strip.specs.Words.{pixels}
 use Rattle.strip.specs.Checks.{headerIn, checkStrip, checkOutput}
-use Rattle.strip.specs.Reading.{codesIn}
+use Rattle.strip.specs.Reading.{headerOf, codesIn}
 use Rattle.convert.specs.Formats.{Format, stored}
 use Rattle.convert.specs.Converting.{checkSource, converted, codesOf}
 
@@ -15,10 +16,10 @@ use Rattle.convert.specs.Converting.{checkSource, converted, codesOf}
 pub record ReadBack (f : Format) (h : Header) (xs : List ℕ) : Type 0 where
   pub accepted : checkStrip (converted f h xs) ≡ Accepted
   pub unpacked : (room : ℕ) → 3 * pixels h ≤ room → checkOutput (converted f h xs) room ≡ Accepted
-  pub header : headerIn (converted f h xs) ≡ h
+  pub header : headerOf (converted f h xs) ≡ Holds h
   pub channels : codesIn (converted f h xs) ≡ codesOf f xs
 
-pub ReadsBack : Type 0
+abbrev pub ReadsBack : Type 0
 ReadsBack = (f : Format) (h : Header) (xs : List ℕ) (room : ℕ) → checkSource f h xs room ≡ Accepted → ReadBack f h xs
 
 -- An accepted strip, unpacked and converted again with its own size and key, is accepted and is the same words.
@@ -26,7 +27,7 @@ pub record WrittenAgain (s : List ℕ) : Type 0 where
   pub accepted : (room : ℕ) → length s ≤ room → checkSource stored (headerIn s) (codesIn s) room ≡ Accepted
   pub words : converted stored (headerIn s) (codesIn s) ≡ s
 
-pub WritesAgain : Type 0
+abbrev pub WritesAgain : Type 0
 WritesAgain = (s : List ℕ) → checkStrip s ≡ Accepted → WrittenAgain s
 
 -- Converting an accepted source is converting the 16-bit numbers of its channels.
@@ -34,5 +35,5 @@ pub record ByCodes (f : Format) (h : Header) (xs : List ℕ) (room : ℕ) : Type
   pub accepted : checkSource stored h (codesOf f xs) room ≡ Accepted
   pub words : converted stored h (codesOf f xs) ≡ converted f h xs
 
-pub ConvertsByCodes : Type 0
+abbrev pub ConvertsByCodes : Type 0
 ConvertsByCodes = (f : Format) (h : Header) (xs : List ℕ) (room : ℕ) → checkSource f h xs room ≡ Accepted → ByCodes f h xs room

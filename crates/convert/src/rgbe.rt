@@ -42,7 +42,13 @@ fn check_rgbe(source: &[u8]) -> Verdict
     let mut p: usize = 0;
     while p < pixels {
         let at = 4 * p;
-        let pixel = check_pixel(at, source[at], source[at + 1], source[at + 2], source[at + 3]);
+        let pixel = check_pixel(
+            at,
+            source[at],
+            source[at + 1],
+            source[at + 2],
+            source[at + 3],
+        );
         let Verdict::Accepted = pixel else {
             return pixel;
         };

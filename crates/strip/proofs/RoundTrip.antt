@@ -47,6 +47,7 @@ use Rattle.strip.specs.Checks.{
   checkHead,
   checkBody,
   checkWith,
+  checkOutput,
 }
 use Rattle.strip.specs.Reading.{channelsIn}
 use Rattle.strip.proofs.Walks.{length-placed, length-words}
@@ -56,13 +57,12 @@ use Rattle.strip.proofs.Bodies.{holds, is-word}
 -- ---- rows of elements that are read as channels, whatever f reads in one
 
 -- every channel of a list is one
-pub All : List Channel → Type 0
+abbrev pub All : List Channel → Type 0
 All [] = Unit
 All (c ∷ cs) = IsChannel c × All cs
 
 pub channels-valid : (f : ℕ → ℕ → Decoded) → ((k x : ℕ) (c : Channel) → f k x ≡ Holds c → IsChannel c) → (start k : ℕ) (xs : List ℕ)
     → firstRefusal (placed f start k xs) ≡ Accepted → All (channelsOf (placed f start k xs))
-unfolding All
 channels-valid f valid start k [] e = tt
 channels-valid f valid start k (x ∷ xs) e =
     let q = and-passed _ _ e in
@@ -81,7 +81,6 @@ module _
     (one : (k : ℕ) (c : Channel) (cs : List Channel) → row k (c ∷ cs) ≡ g k c ∷ row (suc k) cs)
     (read : (k : ℕ) (c : Channel) → IsChannel c → f k (g k c) ≡ Holds c) where
   pub row-read : (start k : ℕ) (cs : List Channel) → All cs → ReadAs f start k (row k cs) cs
-  unfolding All
   row-read start k [] t = rw (none k) (record { accepted = refl; channels = refl })
   row-read start k (c ∷ cs) t =
       let e = read k c (t .0) in
@@ -176,6 +175,12 @@ module _ (h : Header) (cs : List Channel) (ok : IsPage h cs) where
   pub written-accepted : (added : Verdict) → added ≡ Accepted → checkWith added (stripOf h cs) ≡ Accepted
   unfolding checkWith
   written-accepted added e = and-met head-accepted (and-met e body-accepted)
+
+  pub output-accepted : (room : ℕ) → 3 * pixels h ≤ room → checkOutput (stripOf h cs) room ≡ Accepted
+  unfolding checkOutput
+  output-accepted room fits =
+      let enough : channelCount (stripOf h cs) ≤ room = rw (width-read, height-read) fits in
+      written-accepted _ (require-met _ _ (le-leb _ _ enough) refl)
 
   pub channels-written : channelsIn (stripOf h cs) ≡ cs
   channels-written = rw body-written (read .channels)

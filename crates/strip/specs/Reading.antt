@@ -10,12 +10,15 @@ use Rattle.strip.specs.declared.header.Header.{Header}
 use Rattle.strip.specs.declared.header.Headed.{Headed}
 use Rattle.strip.specs.declared.header.Headed.the-variants.{Holds, Refuses}
 use Rattle.strip.specs.Placing.{channelsOf}
-use Rattle.strip.specs.Checks.{headerIn, bodyStart, body}
+use Rattle.strip.specs.Checks.{headerIn, bodyStart, body, checkStrip}
 
--- its header, or its refusal
 abbrev pub headedBy : Verdict → Header → Headed
 headedBy Accepted h = Holds h
 headedBy (Refused r i) h = Refuses r i
+
+-- its header; of a refused strip its refusal
+abbrev pub headerOf : List ℕ → Headed
+headerOf s = headedBy (checkStrip s) (headerIn s)
 
 abbrev pub channelsIn : List ℕ → List Channel
 channelsIn s = channelsOf (body s)

@@ -3,8 +3,8 @@ ghost use mathlib.Core.Path.{_≡_};
 ghost use mathlib.Core.List.{map};
 ghost use Prim.Native.Nat.{_≤_};
 ghost use lib.ListN.{length};
-ghost use Rattle.strip.specs.Checks.{low16, headerIn, checkStrip, checkOutput};
-ghost use Rattle.strip.specs.Reading.{headedBy, codesIn};
+ghost use Rattle.strip.specs.Checks.{low16, checkOutput};
+ghost use Rattle.strip.specs.Reading.{headerOf, codesIn};
 ghost use Rattle.strip.specs.Output.{onto, after};
 use crate::check::BODY_START;
 use crate::check::check;
@@ -16,7 +16,7 @@ use refusal::Verdict;
 
 // The header of a strip, or its refusal.
 pub fn header(strip: &[u32]) -> Headed
-    ensures { λ r. ⌜ r ≡ headedBy (checkStrip (now (strip .entry))) (headerIn (now (strip .entry))) ⌝ }
+    ensures { λ r. ⌜ r ≡ headerOf (now (strip .entry)) ⌝ }
 {
     let verdict = check(strip);
     match verdict {

@@ -1,0 +1,140 @@
+-- The claims of `specs/Claims.antt`. Assumes nothing.
+use Prim.Native.Nat.{ℕ, _+_, _*_, _≤_}
+use mathlib.Core.Path.{_≡_, refl, sym, ap, _∙_}
+use mathlib.Core.List.{List, [], _∷_, map}
+use native.Mathlib.Omega.{arith}
+use borrow.Author.Tests.{eq-eqb, le-leb}
+use lib.ListN.{length, length-map}
+use Rattle.number.specs.declared.channel.Channel.{Channel}
+use Rattle.number.specs.Channels.{IsChannel, codeOf}
+use Rattle.number.proofs.Laws.{code-channel, channel-code, half-valid, single-valid, rgbe-valid}
+use Rattle.refusal.specs.declared.Verdict.the-variants.{Accepted}
+use Rattle.refusal.proofs.Laws.{and-passed, and-met, require-met}
+use Rattle.strip.specs.declared.header.Header.{Header}
+use Rattle.strip.specs.declared.header.Headed.the-variants.{Holds}
+use Rattle.strip.specs.Words.{pixels, stripOf}
+use Rattle.strip.specs.Placing.{firstRefusal, channelsOf}
+use Rattle.strip.specs.Checks.{headerIn, channelCount, checkStrip, checkOutput}
+use Rattle.strip.specs.Reading.{channelsIn, codesIn}
+use Rattle.strip.proofs.Limits.{Whole, whole}
+use Rattle.strip.proofs.Bodies.{holds}
+use Rattle.strip.proofs.RoundTrip.{
+  All,
+  channels-valid,
+  ReadAs,
+  row-read,
+  IsPage,
+  header-written,
+  written-accepted,
+  output-accepted,
+  channels-written,
+  same-words,
+  page-read,
+}
+use Rattle.convert.specs.Formats.{
+  Format,
+  rgbe,
+  half,
+  single,
+  stored,
+  perPixel,
+  halfElement,
+  singleElement,
+  storedElement,
+  rgbePixels,
+  elements,
+}
+use Rattle.convert.specs.Converting.{checkPage, checkSource, converted, codesOf}
+use Rattle.convert.specs.Claims.{ReadBack, ReadsBack, WrittenAgain, WritesAgain, ByCodes, ConvertsByCodes}
+use Rattle.convert.proofs.Pages.{Page, page, channel-count}
+
+-- ---- every channel of an accepted source is one
+
+pixels-valid : (i : ℕ) (xs : List ℕ) → firstRefusal (rgbePixels i xs) ≡ Accepted → All (channelsOf (rgbePixels i xs))
+pixels-valid i [] h = tt
+pixels-valid i (r ∷ []) h = tt
+pixels-valid i (r ∷ g ∷ []) h = tt
+pixels-valid i (r ∷ g ∷ b ∷ []) h = tt
+pixels-valid i (r ∷ g ∷ b ∷ e ∷ xs) h =
+    let q₁ = and-passed _ _ h in
+    let q₂ = and-passed _ _ (q₁ .1) in
+    let q₃ = and-passed _ _ (q₂ .1) in
+    let red = rgbe-valid _ r e (holds _ _ (q₁ .0)) in
+    let green = rgbe-valid _ g e (holds _ _ (q₂ .0)) in
+    let blue = rgbe-valid _ b e (holds _ _ (q₃ .0)) in
+    (red, (green, (blue, pixels-valid (i + 4) xs (q₃ .1))))
+
+elements-valid : (f : Format) (xs : List ℕ) → firstRefusal (elements f xs) ≡ Accepted → All (channelsOf (elements f xs))
+elements-valid rgbe xs e = pixels-valid 0 xs e
+elements-valid half xs e = channels-valid halfElement (λ k b c. half-valid c b) 0 0 xs e
+elements-valid single xs e = channels-valid singleElement (λ k b c. single-valid c b) 0 0 xs e
+elements-valid stored xs e = channels-valid storedElement (λ k n c h. channel-code n c h .valid) 0 0 xs e
+
+-- ---- an accepted source is a page
+
+module _ (f : Format) (h : Header) (xs : List ℕ) (room : ℕ) (accepted : checkSource f h xs room ≡ Accepted) where
+  parts : (checkPage h (perPixel f) (length xs) room ≡ Accepted) × (firstRefusal (elements f xs) ≡ Accepted)
+  unfolding checkSource
+  parts = and-passed _ _ accepted
+
+  limits : Page h (perPixel f) (length xs) room
+  limits = page h _ _ _ (parts .0)
+
+  is-page : IsPage h (channelsOf (elements f xs))
+  is-page =
+      record {
+        size = limits .size;
+        key = limits .key;
+        count = channel-count f (pixels h) xs (limits .long);
+        valid = elements-valid f xs (parts .1);
+      }
+
+pub reads-back : ReadsBack
+unfolding checkStrip
+reads-back f h xs room accepted =
+    let p = is-page f h xs room accepted in
+    let cs = channelsOf (elements f xs) in
+    record {
+      accepted = written-accepted h cs p Accepted refl;
+      unpacked = output-accepted h cs p;
+      header = simp (written-accepted h cs p Accepted refl) (ap Holds (header-written h cs p));
+      channels = ap (map codeOf) (channels-written h cs p);
+    }
+
+-- ---- a page's channels as codes
+
+codes-read : (k : ℕ) (cs : List Channel) → All cs → ReadAs storedElement 0 k (map codeOf cs) cs
+codes-read k cs t =
+    row-read storedElement (λ j c. codeOf c) (λ j ds. map codeOf ds) (λ j. refl) (λ j c ds. refl) (λ j c. code-channel c) 0 k cs t
+
+module _ (h : Header) (cs : List Channel) (p : IsPage h cs) where
+  pub codes-accepted : (room : ℕ) → 3 * pixels h + 3 ≤ room → checkSource stored h (map codeOf cs) room ≡ Accepted
+  unfolding checkSource checkPage
+  codes-accepted room fits =
+      let count : length (map codeOf cs) ≡ 3 * pixels h = length-map cs codeOf ∙ p .count in
+      and-met
+      (require-met _ _ (p .size)
+      (require-met _ _ (p .key) (require-met _ _ (eq-eqb _ _ count) (require-met _ _ (le-leb _ _ fits) refl))))
+      (codes-read 0 cs (p .valid) .accepted)
+
+  pub codes-converted : converted stored h (map codeOf cs) ≡ stripOf h cs
+  codes-converted = ap (stripOf h) (codes-read 0 cs (p .valid) .channels)
+
+pub converts-by-codes : ConvertsByCodes
+converts-by-codes f h xs room accepted =
+    let p = is-page f h xs room accepted in
+    let cs = channelsOf (elements f xs) in
+    record {
+      accepted = codes-accepted h cs p room (limits f h xs room accepted .fits);
+      words = codes-converted h cs p;
+    }
+
+pub writes-again : WritesAgain
+unfolding checkStrip
+writes-again s accepted =
+    let q = whole Accepted s accepted .1 in
+    let p = page-read s q in
+    record {
+      accepted = λ room fits. codes-accepted (headerIn s) (channelsIn s) p room (omega (arith, q .head .long, fits));
+      words = codes-converted (headerIn s) (channelsIn s) p ∙ same-words s q;
+    }
