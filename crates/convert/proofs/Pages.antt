@@ -3,13 +3,11 @@ use Prim.Native.Nat.{ℕ, zero, suc, _+_, _*_, _<_, _≤_}
 use mathlib.Core.Path.{_≡_, refl, sym, ap, _∙_}
 use mathlib.Core.List.{List, [], _∷_, _++_}
 use mathlib.Core.Bool.{true}
-use native.Mathlib.Nat.{zero-add}
 use native.Mathlib.Omega.{arith}
 use borrow.Author.Tests.{eqb-true, leb-true}
 use lib.ListN.{length, set, length-map, length-append}
 use lib.Seq.{sets, set-comm}
 use Rattle.number.specs.declared.channel.Channel.{Channel}
-use Rattle.number.specs.declared.channel.Decoded.{Decoded}
 use Rattle.refusal.specs.declared.Refusal.{Refusal}
 use Rattle.refusal.specs.declared.Verdict.{Verdict}
 use Rattle.refusal.specs.declared.Verdict.the-variants.{Accepted, Refused}
@@ -17,7 +15,7 @@ use Rattle.refusal.specs.Verdicts.{andThen}
 use Rattle.refusal.proofs.Laws.{require-passed}
 use Rattle.strip.specs.declared.header.Header.{Header}
 use Rattle.strip.specs.Words.{pixels, sizeFits, keyFits, sizeWord, keyWord, bodyWords, endWord, stripOf}
-use Rattle.strip.specs.Placing.{Placed, placed, firstRefusal, channelIn, channelsOf}
+use Rattle.strip.specs.Placing.{Placed, firstRefusal, channelIn, channelsOf}
 use Rattle.strip.specs.Output.{onto, after}
 use Rattle.strip.proofs.Walks.{sets-front, length-placed, length-words}
 use Rattle.convert.specs.Formats.{Format, rgbe, half, single, stored, perPixel, rgbePixels, elements}
@@ -59,10 +57,17 @@ length-elements half n xs e = length-placed _ 0 0 xs ∙ e
 length-elements single n xs e = length-placed _ 0 0 xs ∙ e
 length-elements stored n xs e = length-placed _ 0 0 xs ∙ e
 
-pub channel-count : (f : Format) (n : ℕ) (xs : List ℕ) → length xs ≡ perPixel f * n → length (channelsOf (elements f xs)) ≡ 3 * n
+pub channel-count : (f : Format) (n : ℕ) (xs : List ℕ) → length xs ≡ perPixel f * n
+    → length (channelsOf (elements f xs)) ≡ 3 * n
 channel-count f n xs e = length-map (elements f xs) (λ (p : Placed). channelIn (p .decoded)) ∙ length-elements f n xs e
 
 -- ---- stores at other places, in any order
+
+-- the words around the channels, stored in t
+abbrev pub withFrame : Header → List ℕ → List ℕ
+withFrame h t =
+    let size = set t 0 (sizeWord (h .width) (h .height)) in
+    set (set size 1 (keyWord (h .key))) (2 + 3 * pixels h) (endWord (pixels h))
 
 before : (t : List ℕ) (i j : ℕ) (vs : List ℕ) (a : ℕ) → i < j → set (sets t j vs) i a ≡ sets (set t i a) j vs
 before t i j [] a h = refl
@@ -77,8 +82,7 @@ behind t i (a ∷ vs) v =
 
 -- the channel words, then the words around them
 pub framed : (h : Header) (cs : List Channel) (t : List ℕ) → length cs ≡ 3 * pixels h → 3 * pixels h + 3 ≤ length t
-    → set (set (set (sets t 2 (bodyWords 0 cs)) 0 (sizeWord (h .width) (h .height))) 1 (keyWord (h .key))) (2 + 3 * pixels h) (endWord (pixels h))
-    ≡ onto (stripOf h cs) t
+    → withFrame h (sets t 2 (bodyWords 0 cs)) ≡ onto (stripOf h cs) t
 framed h cs t n fits =
     let a = sizeWord (h .width) (h .height) in
     let b = keyWord (h .key) in
@@ -107,9 +111,10 @@ module _ (f : Format) (h : Header) (xs t : List ℕ) where
       element-refused told = (simp (sym e, ok) g, simp told)
 
       pub accepted : {u : List ℕ} → v ≡ Accepted
-          → u ≡ set (set (set (sets t 2 (bodyWords 0 (channelsOf (elements f xs)))) 0 (sizeWord (h .width) (h .height))) 1 (keyWord (h .key))) (2 + 3 * pixels h) (endWord (pixels h))
+          → u ≡ withFrame h (sets t 2 (bodyWords 0 (channelsOf (elements f xs))))
           → Result Accepted u
       unfolding checkSource andThen
       accepted told stores =
           let q = page h _ _ _ (sym e ∙ ok) in
-          (simp (sym e, ok) (sym told ∙ g), stores ∙ framed h (channelsOf (elements f xs)) t (channel-count f _ xs (q .long)) (q .fits))
+          let made = framed h (channelsOf (elements f xs)) t (channel-count f _ xs (q .long)) (q .fits) in
+          (simp (sym e, ok) (sym told ∙ g), stores ∙ made)

@@ -1,19 +1,16 @@
 -- Loops over the pixels of an RGBE picture. Assumes nothing.
 use Prim.Native.Nat.{ℕ, suc, _+_, _*_, _/_, _<_, _≤_}
-use mathlib.Core.Path.{_≡_, refl, sym, ap, _∙_}
+use mathlib.Core.Path.{_≡_, refl, sym, _∙_}
 use mathlib.Core.List.{List, [], _∷_, _++_}
 use native.Mathlib.Omega.{arith}
 use lib.ListN.{length, getD, set, drop, length-set, length-drop}
 use lib.Seq.{drop-cons, sets}
-use Rattle.number.specs.declared.channel.Decoded.{Decoded}
-use Rattle.number.specs.Channels.{codeOf}
-use Rattle.number.specs.Sources.{channelOfValue, rgbeValue}
 use Rattle.refusal.specs.declared.Refusal.{Refusal}
 use Rattle.refusal.specs.declared.Verdict.{Verdict}
 use Rattle.refusal.specs.declared.Verdict.the-variants.{Accepted, Refused}
 use Rattle.refusal.specs.Verdicts.{andThen}
-use Rattle.strip.specs.Words.{channelWord, bodyWords}
-use Rattle.strip.specs.Placing.{Placed, firstRefusal, channelIn, channelsOf}
+use Rattle.strip.specs.Words.{bodyWords}
+use Rattle.strip.specs.Placing.{Placed, firstRefusal, channelsOf}
 use Rattle.strip.proofs.Walks.{refusal-append}
 use Rattle.convert.specs.Formats.{rgbePixel, rgbePixels, rgbeWord}
 

@@ -1,12 +1,12 @@
 -- The claims of `specs/Claims.antt`. Assumes nothing.
 use Prim.Native.Nat.{ℕ, _+_, _*_, _≤_}
-use mathlib.Core.Path.{_≡_, refl, sym, ap, _∙_}
+use mathlib.Core.Path.{_≡_, refl, ap, _∙_}
 use mathlib.Core.List.{List, [], _∷_, map}
 use native.Mathlib.Omega.{arith}
 use borrow.Author.Tests.{eq-eqb, le-leb}
 use lib.ListN.{length, length-map}
 use Rattle.number.specs.declared.channel.Channel.{Channel}
-use Rattle.number.specs.Channels.{IsChannel, codeOf}
+use Rattle.number.specs.Channels.{codeOf}
 use Rattle.number.proofs.Laws.{code-channel, channel-code, half-valid, single-valid, rgbe-valid}
 use Rattle.refusal.specs.declared.Verdict.the-variants.{Accepted}
 use Rattle.refusal.proofs.Laws.{and-passed, and-met, require-met}
@@ -14,9 +14,9 @@ use Rattle.strip.specs.declared.header.Header.{Header}
 use Rattle.strip.specs.declared.header.Headed.the-variants.{Holds}
 use Rattle.strip.specs.Words.{pixels, stripOf}
 use Rattle.strip.specs.Placing.{firstRefusal, channelsOf}
-use Rattle.strip.specs.Checks.{headerIn, channelCount, checkStrip, checkOutput}
-use Rattle.strip.specs.Reading.{channelsIn, codesIn}
-use Rattle.strip.proofs.Limits.{Whole, whole}
+use Rattle.strip.specs.Checks.{headerIn, checkStrip}
+use Rattle.strip.specs.Reading.{channelsIn}
+use Rattle.strip.proofs.Limits.{whole}
 use Rattle.strip.proofs.Bodies.{holds}
 use Rattle.strip.proofs.RoundTrip.{
   All,
@@ -44,8 +44,8 @@ use Rattle.convert.specs.Formats.{
   rgbePixels,
   elements,
 }
-use Rattle.convert.specs.Converting.{checkPage, checkSource, converted, codesOf}
-use Rattle.convert.specs.Claims.{ReadBack, ReadsBack, WrittenAgain, WritesAgain, ByCodes, ConvertsByCodes}
+use Rattle.convert.specs.Converting.{checkPage, checkSource, converted}
+use Rattle.convert.specs.Claims.{ReadsBack, WritesAgain, ConvertsByCodes}
 use Rattle.convert.proofs.Pages.{Page, page, channel-count}
 
 -- ---- every channel of an accepted source is one

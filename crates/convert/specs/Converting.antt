@@ -14,7 +14,7 @@ use Rattle.strip.specs.Words.{pixels, sizeFits, keyFits, stripOf}
 use Rattle.strip.specs.Placing.{firstRefusal, channelsOf}
 use Rattle.convert.specs.Formats.{Format, perPixel, elements}
 
--- the checks of a source of so many elements, `per` of them a pixel, and an output of `room` words; a strip has three words a pixel, and three
+-- the checks of a source of `count` elements, `per` of them a pixel, and of an output of `room` words: "Length: 3 × pixels + 3."
 unfoldable pub checkPage : Header → (per count room : ℕ) → Verdict
 checkPage h per count room =
     require (sizeFits (h .width) (h .height)) BadSize 0

@@ -1,5 +1,5 @@
 -- What an accepted header, strip or row keeps to. Assumes nothing.
-use Prim.Native.Nat.{ℕ, _+_, _*_, _<_, _≤_}
+use Prim.Native.Nat.{ℕ, _+_, _*_, _≤_}
 use mathlib.Core.Path.{_≡_, refl}
 use mathlib.Core.List.{List}
 use mathlib.Core.Bool.{Bool, true, false, _&&_}
@@ -16,7 +16,6 @@ use Rattle.strip.specs.Checks.{
   wordAt,
   widthIn,
   heightIn,
-  low16,
   headerIn,
   channelCount,
   endIndex,

@@ -1,7 +1,7 @@
 -- A strip and the header and channels that it is written from determine each other. Assumes nothing.
-use Prim.Native.Nat.{ℕ, suc, _+_, _*_, _/_, _%_, _^_, _<_, _≤_}
-use mathlib.Core.Path.{_≡_, refl, sym, ap, _∙_}
-use mathlib.Core.List.{List, [], _∷_, _++_, map}
+use Prim.Native.Nat.{ℕ, suc, _+_, _*_, _^_, _<_, _≤_}
+use mathlib.Core.Path.{_≡_, refl, sym, _∙_}
+use mathlib.Core.List.{List, [], _∷_, _++_}
 use mathlib.Core.Bool.{true}
 use native.Mathlib.Omega.{arith}
 use borrow.Author.Tests.{eq-eqb, le-leb}
@@ -11,11 +11,10 @@ use Rattle.number.specs.declared.channel.Channel.{Channel}
 use Rattle.number.specs.declared.channel.Channel.the-variants.{Black, Lit}
 use Rattle.number.specs.declared.channel.Decoded.{Decoded}
 use Rattle.number.specs.declared.channel.Decoded.the-variants.{Holds}
-use Rattle.number.specs.Channels.{IsChannel, codeOf, channelOfCode}
+use Rattle.number.specs.Channels.{IsChannel, codeOf}
 use Rattle.number.proofs.Laws.{code-channel}
 use Rattle.refusal.specs.declared.Verdict.{Verdict}
 use Rattle.refusal.specs.declared.Verdict.the-variants.{Accepted}
-use Rattle.refusal.specs.Verdicts.{andThen}
 use Rattle.refusal.proofs.Laws.{and-passed, and-met, require-met}
 use Rattle.strip.specs.declared.header.Header.{Header}
 use Rattle.strip.specs.Words.{
@@ -29,7 +28,7 @@ use Rattle.strip.specs.Words.{
   endWord,
   stripOf,
 }
-use Rattle.strip.specs.Placing.{Placed, placed, verdictAt, firstRefusal, channelIn, channelsOf}
+use Rattle.strip.specs.Placing.{Placed, placed, firstRefusal, channelIn, channelsOf}
 use Rattle.strip.specs.Checks.{
   wordAt,
   widthIn,
@@ -51,7 +50,7 @@ use Rattle.strip.specs.Checks.{
 }
 use Rattle.strip.specs.Reading.{channelsIn}
 use Rattle.strip.proofs.Walks.{length-placed, length-words}
-use Rattle.strip.proofs.Limits.{Sized, size-limits, Keyed, key-limits, Head, Whole}
+use Rattle.strip.proofs.Limits.{size-limits, key-limits, Whole}
 use Rattle.strip.proofs.Bodies.{holds, is-word}
 
 -- ---- rows of elements that are read as channels, whatever f reads in one
@@ -215,7 +214,8 @@ page-read s q =
     let n = q .head .long in
     let fits : channelCount s ≤ length (drop 2 s) = rw length-drop (omega arith) in
     let count : length (channelsIn s) ≡ channelCount s =
-    length-map (body s) (λ (p : Placed). channelIn (p .decoded)) ∙ length-placed _ 2 0 (bodyIn s) ∙ length-take-le (channelCount s) (drop 2 s) fits in
+    length-map (body s) (λ (p : Placed). channelIn (p .decoded)) ∙ length-placed _ 2 0 (bodyIn s)
+    ∙ length-take-le (channelCount s) (drop 2 s) fits in
     record {
       size = q .head .size-fits;
       key = q .head .key-fits;

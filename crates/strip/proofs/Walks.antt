@@ -1,19 +1,18 @@
 -- Loops over a row: one that checks each element, one that stores each. Assumes nothing.
-use Prim.Native.Nat.{ℕ, zero, suc, _+_, _<_, _≤_}
+use Prim.Native.Nat.{ℕ, suc, _+_, _<_, _≤_}
 use mathlib.Core.Path.{_≡_, refl, sym, ap, _∙_}
 use mathlib.Core.List.{List, [], _∷_, _++_}
 use native.Mathlib.Numerals.{add-one}
-use native.Mathlib.Nat.{zero-add, le-of-suc-le-suc, not-suc-le-zero}
+use native.Mathlib.Nat.{zero-add}
 use native.Mathlib.Omega.{arith}
 use lib.ListN.{length, getD, set, drop, length-set, drop-of-length-le}
 use lib.Seq.{drop-cons, sets, sets-eq}
 use Rattle.number.specs.declared.channel.Channel.{Channel}
-use Rattle.number.specs.declared.channel.Channel.the-variants.{Black}
 use Rattle.number.specs.declared.channel.Decoded.{Decoded}
 use Rattle.number.specs.declared.channel.Decoded.the-variants.{Holds, Refuses}
 use Rattle.refusal.specs.declared.Refusal.{Refusal}
 use Rattle.refusal.specs.declared.Verdict.{Verdict}
-use Rattle.refusal.specs.declared.Verdict.the-variants.{Accepted, Refused}
+use Rattle.refusal.specs.declared.Verdict.the-variants.{Accepted}
 use Rattle.refusal.specs.Verdicts.{andThen}
 use Rattle.refusal.proofs.Laws.{and-assoc}
 use Rattle.number.specs.Channels.{codeOf}
@@ -84,7 +83,8 @@ pub writing-all : (f : ℕ → ℕ → Decoded) (xs t : List ℕ) → writing f 
 unfolding writing
 writing-all f xs t = refl
 
-module _ (f : ℕ → ℕ → Decoded) (xs : List ℕ) (i : ℕ) (t : List ℕ) {n : ℕ} {u : List ℕ} (inv : (length t ≡ n) × (writing f xs i t ≡ u)) where
+module _ (f : ℕ → ℕ → Decoded) (xs : List ℕ) (i : ℕ) (t : List ℕ) {n : ℕ} {u : List ℕ}
+    (inv : (length t ≡ n) × (writing f xs i t ≡ u)) where
   pub writing-next : {w : ℕ} {d : Decoded} → i < length xs → d ≡ f i (getD xs i 0) → w ≡ channelWord i (codeOf (channelIn d))
       → (length (set t (2 + i) w) ≡ n) × (writing f xs (i + 1) (set t (2 + i) w) ≡ u)
   unfolding writing

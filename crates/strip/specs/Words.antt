@@ -1,6 +1,6 @@
 -- The words of a strip, as they are written. Assumes nothing.
 -- "A strip is a lent row of 32-bit words; bits 31..28 are the kind (decimal values), bit 0 the lowest." "Other bits are zero."
-use Prim.Native.Nat.{ℕ, zero, suc, _+_, _*_, _%_, _^_}
+use Prim.Native.Nat.{ℕ, suc, _+_, _*_, _%_, _^_}
 use mathlib.Core.List.{List, [], _∷_, _++_}
 use mathlib.Core.Bool.{Bool, _&&_}
 use lib.Dec.{leb}
@@ -38,8 +38,8 @@ keyWord k = wordOf 2 k
 abbrev pub headWords : Header → List ℕ
 headWords h = sizeWord (h .width) (h .height) ∷ keyWord (h .key) ∷ []
 
--- "Kinds 4, 5, 6: red, green, blue of each pixel in turn, left to right, top row first; E in 15..8, M in 7..0." Channel k of the page, from 0,
--- has this kind; its exponent and mantissa are its 16-bit code
+-- "Kinds 4, 5, 6: red, green, blue of each pixel in turn, left to right, top row first; E in 15..8, M in 7..0." The channels of a page are
+-- numbered in this order from 0; a channel's E and M, in these bits, are its 16-bit code
 abbrev pub channelKind : (k : ℕ) → ℕ
 channelKind k = 4 + k % 3
 

@@ -1,6 +1,5 @@
 -- `convert::frame::store_frame` meets its contract. Assumes nothing.
 use borrow.Author.Needs.{needs}
-use mathlib.Core.Path.{sym}
 use native.Mathlib.Omega.{arith}
 use lib.ListN.{length-set}
 use Rattle.strip.proofs.Limits.{size-limits, key-limits}
@@ -14,7 +13,8 @@ store-frame-spec =
     (λ c. search needs) (λ c. search needs) (λ c. search needs)
     (λ c. omega (arith, size-limits _ _ (c .before .pre .0))) (λ c. omega (arith, size-limits _ _ (c .before .pre .0)))
     (λ c κs. search needs) (λ c. search needs) (λ c. omega (arith, key-limits _ (c .before .before .pre .1)))
-    (λ c κs. search needs) (λ c. simp length-set (omega (arith, c .before .before .before .pre .2))) (λ c. search needs) (λ c. search needs)
+    (λ c κs. search needs) (λ c. simp length-set (omega (arith, c .before .before .before .pre .2))) (λ c. search needs)
+    (λ c. search needs)
     (λ c. omega (arith, size-limits _ _ (c .before .before .before .pre .0) .count)) (λ c. search needs)
     (λ c. simp length-set (omega (arith, c .before .before .before .pre .2))) (λ c. search needs)
     (λ c. rw (c .before .size-word .ensures, c .key-word .ensures)))

@@ -1,7 +1,8 @@
--- `convert::rgbe::check_rgbe` meets its contract: at each turn the verdict on the pixels that are left is that on all. Assumes nothing.
+-- `convert::rgbe::check_rgbe` meets its contract: at each turn the verdict on the pixels that are left is that on all.
+-- Assumes nothing.
 use borrow.Author.Needs.{needs}
 use Prim.Native.Nat.{_-_}
-use mathlib.Core.Path.{_≡_, refl}
+use mathlib.Core.Path.{_≡_}
 use native.Mathlib.Omega.{arith}
 use Rattle.strip.specs.Placing.{firstRefusal}
 use Rattle.convert.specs.Formats.{rgbe, elements}
@@ -34,6 +35,6 @@ pub check-rgbe-spec : {M : Type 1} → statement M
 check-rgbe-spec =
     tie.close
     (tie.spec
-    Inv-loop μ-loop (λ c. left-all _) (λ c. omega arith) (λ c. omega arith) (λ c. omega arith) (λ c. omega arith) (λ c. omega arith)
-    (λ c. omega arith) (λ c. omega arith) (λ c. omega arith) (λ c κs. omega arith) (λ c. search needs) (λ c. search needs) returns
-    (λ c. search needs) (λ c. search needs) loop-again returns-2)
+    Inv-loop μ-loop (λ c. left-all _) (λ c. omega arith) (λ c. omega arith) (λ c. omega arith) (λ c. omega arith)
+    (λ c. omega arith) (λ c. omega arith) (λ c. omega arith) (λ c. omega arith) (λ c κs. omega arith) (λ c. search needs)
+    (λ c. search needs) returns (λ c. search needs) (λ c. search needs) loop-again returns-2)

@@ -14,7 +14,8 @@ use Rattle.convert.proofs.rgbe.store_rgbe.Tie as tie
 
 abbrev Inv-loop : tie.InvT-loop
 Inv-loop source output₀ pixels p₀ output p =
-    (length output ≡ length output₀) × (writing source p output ≡ sets output₀ 2 (bodyWords 0 (channelsOf (elements rgbe source))))
+    (length output ≡ length output₀)
+    × (writing source p output ≡ sets output₀ 2 (bodyWords 0 (channelsOf (elements rgbe source))))
 
 abbrev μ-loop : tie.MeasureT-loop
 μ-loop source output₀ pixels p₀ output p = pixels - p
@@ -32,6 +33,6 @@ pub store-rgbe-spec : {M : Type 1} → statement M
 store-rgbe-spec =
     tie.close
     (tie.spec
-    Inv-loop μ-loop (λ c. (refl, writing-all _ _)) (λ c. omega arith) (λ c. omega arith) (λ c. omega arith) (λ c. omega arith) (λ c. omega arith)
-    (λ c. omega arith) (λ c. omega arith) (λ c. omega arith) (λ c. omega arith) (λ c κs. omega arith) (λ c. search needs) (λ c. search needs) loop-again
-    (λ c. search needs) returns)
+    Inv-loop μ-loop (λ c. (refl, writing-all _ _)) (λ c. omega arith) (λ c. omega arith) (λ c. omega arith)
+    (λ c. omega arith) (λ c. omega arith) (λ c. omega arith) (λ c. omega arith) (λ c. omega arith) (λ c. omega arith)
+    (λ c κs. omega arith) (λ c. search needs) (λ c. search needs) loop-again (λ c. search needs) returns)

@@ -21,8 +21,8 @@ returns : tie.Need-returns Inv-loop μ-loop
 returns c =
     let b = c .before .before .before in
     let t = b .before .before in
-    checking-refused _ _ _ _ (t .before .loop .inv) (t .loop-test .taken) (b .single-to-channel .ensures) (zero-add _) (c .verdict-at .ensures)
-    (c .before .enum-told2 .given .1)
+    checking-refused _ _ _ _ (t .before .loop .inv) (t .loop-test .taken) (b .single-to-channel .ensures) (zero-add _)
+    (c .verdict-at .ensures) (c .before .enum-told2 .given .1)
 
 loop-again : tie.Need-loop-again Inv-loop μ-loop
 loop-again c =

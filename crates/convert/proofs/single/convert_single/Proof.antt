@@ -1,7 +1,7 @@
 -- `convert::single::convert_single` meets its contract: a refusal comes before the first store, and the stores make the strip.
 -- Assumes nothing.
 use borrow.Author.Needs.{needs}
-use mathlib.Core.Path.{_≡_, sym, _∙_}
+use mathlib.Core.Path.{sym, _∙_}
 use native.Mathlib.Omega.{arith}
 use lib.ListN.{length}
 use denote.Ref.{now}
@@ -21,7 +21,8 @@ returns-2 c =
 
 -- what holds once the page is accepted
 ok : (c : tie.After-enum-told)
-    → let a = c .before .before .before .before .before .args in Page (a .header) 3 (length (now (a .source))) (length (now (a .output)))
+    → let a = c .before .before .before .before .before .args in
+    Page (a .header) 3 (length (now (a .source))) (length (now (a .output)))
 ok c = page _ _ _ _ (sym (c .before .before .check-page .ensures) ∙ c .enum-told .given .1)
 
 store-frame-requires : tie.Need-store-frame-requires
@@ -37,7 +38,8 @@ returns-3 c =
     let e = s .before .before in
     let b = e .before .before .before in
     accepted single _ _ _ (b .before .before .check-page .ensures) (b .enum-told .given .1)
-    (e .before .before .check-single .ensures) (e .enum-told3 .given .1) (rw (s .store-single .ensures) at (f .store-frame .ensures))
+    (e .before .before .check-single .ensures) (e .enum-told3 .given .1)
+    (rw (s .store-single .ensures) at (f .store-frame .ensures))
 
 pub convert-single-spec : {M : Type 1} → statement M
 convert-single-spec =

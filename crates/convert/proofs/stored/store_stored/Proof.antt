@@ -13,7 +13,8 @@ use Rattle.convert.proofs.stored.store_stored.Tie as tie
 
 abbrev Inv-loop : tie.InvT-loop
 Inv-loop source output₀ k₀ output k =
-    (length output ≡ length output₀) × (writing storedElement source k output ≡ sets output₀ 2 (bodyWords 0 (channelsOf (elements stored source))))
+    (length output ≡ length output₀)
+    × (writing storedElement source k output ≡ sets output₀ 2 (bodyWords 0 (channelsOf (elements stored source))))
 
 abbrev μ-loop : tie.MeasureT-loop
 μ-loop source output₀ k₀ output k = length source - k
@@ -21,8 +22,8 @@ abbrev μ-loop : tie.MeasureT-loop
 loop-again : tie.Need-loop-again Inv-loop μ-loop
 loop-again c =
     let t = c .before .before .before in
-    writing-next _ _ _ (t .before .loop .output) (t .before .loop .inv) (t .loop-test .taken) (c .before .code-to-channel .ensures)
-    (c .word-of .ensures)
+    let l = t .before .loop in
+    writing-next _ _ _ (l .output) (l .inv) (t .loop-test .taken) (c .before .code-to-channel .ensures) (c .word-of .ensures)
 
 returns : tie.Need-returns Inv-loop μ-loop
 returns c = writing-done _ _ _ _ (c .before .loop .inv) (c .loop-test .left)
@@ -32,5 +33,5 @@ store-stored-spec =
     tie.close
     (tie.spec
     Inv-loop μ-loop (λ c. (refl, writing-all _ _ _)) (λ c. search needs) (λ c. search needs) (λ c κs. search needs)
-    (λ c κs. search needs) (λ c. search needs) (λ c. search needs) (λ c. search needs) (λ c. search needs) (λ c. search needs) loop-again (λ c. search needs)
-    returns)
+    (λ c κs. search needs) (λ c. search needs) (λ c. search needs) (λ c. search needs) (λ c. search needs) (λ c. search needs)
+    loop-again (λ c. search needs) returns)

@@ -1,12 +1,11 @@
 -- `strip::check::check_output` meets its contract. Assumes nothing.
 use borrow.Author.Needs.{needs}
-use mathlib.Core.Path.{_≡_, sym}
+use mathlib.Core.Path.{sym}
 use native.Mathlib.Omega.{arith}
 use borrow.Author.Tests.{le-leb, lt-leb}
 use denote.Ref.{now}
-use Rattle.refusal.specs.declared.Verdict.the-variants.{Accepted}
 use Rattle.refusal.specs.Verdicts.{require, andThen}
-use Rattle.strip.specs.Checks.{checkHead, checkWith, checkOutput}
+use Rattle.strip.specs.Checks.{checkWith, checkOutput}
 use Rattle.strip.proofs.Limits.{Head, headed, pixels-small}
 use Rattle.strip.proofs.check.check_output.Statement.{statement}
 use Rattle.strip.proofs.check.check_output.Tie as tie
@@ -23,14 +22,20 @@ unfolding checkOutput checkWith andThen require
 returns-2 c =
     let p = c .before in
     let h = p .before .before in
-    simp (sym (h .before .before .check-head .ensures), h .enum-told .given .1, sym (p .pixel-count .ensures), lt-leb _ _ (c .if1 .taken))
+    simp
+    (sym (h .before .before .check-head .ensures), h .enum-told .given .1, sym (p .pixel-count .ensures), lt-leb _ _ (c .if1 .taken))
 
 returns-3 : tie.Need-returns-3
 unfolding checkOutput checkWith andThen require
 returns-3 c =
     let p = c .before .before in
     let h = p .before .before in
-    simp (sym (h .before .before .check-head .ensures), h .enum-told .given .1, sym (p .pixel-count .ensures), le-leb _ _ (c .before .if1 .left))
+    simp (
+      sym (h .before .before .check-head .ensures),
+      h .enum-told .given .1,
+      sym (p .pixel-count .ensures),
+      le-leb _ _ (c .before .if1 .left),
+    )
     (c .check-body .ensures)
 
 pub check-output-spec : {M : Type 1} → statement M

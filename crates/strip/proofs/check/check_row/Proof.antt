@@ -1,12 +1,11 @@
 -- `strip::check::check_row` meets its contract. Assumes nothing.
 use borrow.Author.Needs.{needs}
-use mathlib.Core.Path.{_≡_, sym}
+use mathlib.Core.Path.{sym}
 use native.Mathlib.Omega.{arith}
 use borrow.Author.Tests.{lt-ltb, le-ltb}
 use denote.Ref.{now}
-use Rattle.refusal.specs.declared.Verdict.the-variants.{Accepted}
 use Rattle.refusal.specs.Verdicts.{require, andThen}
-use Rattle.strip.specs.Checks.{checkHead, checkWith, checkRow}
+use Rattle.strip.specs.Checks.{checkWith, checkRow}
 use Rattle.strip.proofs.Limits.{Head, headed}
 use Rattle.strip.proofs.check.check_row.Statement.{statement}
 use Rattle.strip.proofs.check.check_row.Tie as tie

@@ -1,7 +1,8 @@
--- `strip::unpack::unpack` meets its contract: a refusal comes before the first store, and what is stored is `codesIn`. Assumes nothing.
+-- `strip::unpack::unpack` meets its contract: a refusal comes before the first store, and what is stored is `codesIn`.
+-- Assumes nothing.
 use borrow.Author.Needs.{needs}
 use Prim.Native.Nat.{_*_}
-use mathlib.Core.Path.{_≡_, sym, ap, _∙_}
+use mathlib.Core.Path.{sym, ap, _∙_}
 use native.Mathlib.Omega.{arith}
 use native.Mathlib.Nat.{add-sub-cancel-left}
 use lib.ListN.{length}
@@ -13,8 +14,14 @@ use Rattle.strip.proofs.unpack.unpack.Statement.{statement}
 use Rattle.strip.proofs.unpack.unpack.Tie as tie
 
 -- what holds once the strip is accepted
-limits : (c : tie.After-enum-told) → let a = c .before .before .before .before .before .args in Fits (now (a .strip)) (length (now (a .output)))
+limits : (c : tie.After-enum-told)
+    → let a = c .before .before .before .before .before .args in Fits (now (a .strip)) (length (now (a .output)))
 limits c = output-limits _ _ (cc)
+
+store-codes-requires : tie.Need-store-codes-requires
+store-codes-requires c κs =
+    let p = c .before .before in
+    omega (arith, c .before .store-codes-arg .given, p .pixel-count .ensures, limits (p .before .before) .fits)
 
 returns-2 : tie.Need-returns-2
 returns-2 c =
@@ -34,5 +41,4 @@ unpack-spec =
     (λ c. omega (arith, c .pixel-count .ensures, limits (c .before .before) .fits))
     (λ c. omega (arith, c .pixel-count .ensures, limits (c .before .before) .fits)) (λ c. search needs) (λ c. search needs)
     (λ c. omega (arith, c .pixel-count .ensures, limits (c .before .before) .strip .head .long))
-    (λ c κs. omega (arith, c .before .store-codes-arg .given, c .before .before .pixel-count .ensures, limits (c .before .before .before .before) .fits))
-    (λ c. search needs) returns-2)
+    store-codes-requires (λ c. search needs) returns-2)
