@@ -1,4 +1,4 @@
--- `strip::unpack::store_codes` meets its contract: at each turn the stores that are left give the whole. Assumes nothing.
+-- `strip::read::store_codes` meets its contract: at each turn the stores that are left give the whole. Assumes nothing.
 use borrow.Author.Needs.{needs}
 use Prim.Native.Nat.{_-_}
 use mathlib.Core.Path.{_≡_, refl, _∙_}
@@ -7,8 +7,8 @@ use lib.ListN.{length, length-map, List·getD-map}
 use Rattle.strip.specs.Checks.{low16}
 use Rattle.strip.specs.Output.{onto}
 use Rattle.strip.proofs.Walks.{storing, storing-all, storing-next, storing-done, sets-front}
-use Rattle.strip.proofs.unpack.store_codes.Statement.{statement}
-use Rattle.strip.proofs.unpack.store_codes.Tie as tie
+use Rattle.strip.proofs.read.store_codes.Statement.{statement}
+use Rattle.strip.proofs.read.store_codes.Tie as tie
 
 abbrev Inv-loop : tie.InvT-loop
 Inv-loop words output₀ i₀ output i =

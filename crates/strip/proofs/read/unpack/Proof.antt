@@ -1,4 +1,4 @@
--- `strip::unpack::unpack` meets its contract: a refusal comes before the first store, and what is stored is `codesIn`.
+-- `strip::read::unpack` meets its contract: a refusal comes before the first store, and what is stored is `codesIn`.
 -- Assumes nothing.
 use borrow.Author.Needs.{needs}
 use Prim.Native.Nat.{_*_}
@@ -10,8 +10,8 @@ use denote.Ref.{now}
 use Rattle.strip.specs.Output.{onto}
 use Rattle.strip.proofs.Limits.{Fits, output-limits}
 use Rattle.strip.proofs.Bodies.{codes-in}
-use Rattle.strip.proofs.unpack.unpack.Statement.{statement}
-use Rattle.strip.proofs.unpack.unpack.Tie as tie
+use Rattle.strip.proofs.read.unpack.Statement.{statement}
+use Rattle.strip.proofs.read.unpack.Tie as tie
 
 -- what holds once the strip is accepted
 limits : (c : tie.After-enum-told)

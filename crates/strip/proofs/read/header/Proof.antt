@@ -1,4 +1,4 @@
--- `strip::unpack::header` meets its contract. Assumes nothing.
+-- `strip::read::header` meets its contract. Assumes nothing.
 use borrow.Author.Needs.{needs}
 use mathlib.Core.Path.{sym}
 use native.Mathlib.Omega.{arith}
@@ -6,8 +6,8 @@ use denote.Ref.{now}
 use Rattle.refusal.specs.declared.Verdict.the-variants.{Accepted}
 use Rattle.strip.specs.Checks.{checkStrip}
 use Rattle.strip.proofs.Limits.{Whole, whole}
-use Rattle.strip.proofs.unpack.header.Statement.{statement}
-use Rattle.strip.proofs.unpack.header.Tie as tie
+use Rattle.strip.proofs.read.header.Statement.{statement}
+use Rattle.strip.proofs.read.header.Tie as tie
 
 strip : (c : tie.After-enum-told) → Whole (now (c .before .before .before .before .args .strip))
 unfolding checkStrip
