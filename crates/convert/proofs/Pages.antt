@@ -13,11 +13,12 @@ use Rattle.refusal.specs.declared.Verdict.{Verdict}
 use Rattle.refusal.specs.declared.Verdict.the-variants.{Accepted, Refused}
 use Rattle.refusal.specs.Verdicts.{andThen}
 use Rattle.refusal.proofs.Laws.{require-passed}
-use Rattle.strip.specs.declared.header.Header.{Header}
-use Rattle.strip.specs.Words.{pixels, sizeFits, keyFits, sizeWord, keyWord, bodyWords, endWord, stripOf}
-use Rattle.strip.specs.Placing.{Placed, firstRefusal, channelIn, channelsOf}
+use Rattle.word.specs.declared.header.Header.{Header}
+use Rattle.word.specs.Words.{pixels, sizeFits, keyFits, sizeWord, keyWord, bodyWords, endWord, stripOf}
+use Rattle.word.specs.Placing.{Placed, firstRefusal, channelIn, channelsOf}
 use Rattle.strip.specs.Output.{onto, after}
-use Rattle.strip.proofs.Walks.{sets-front, length-placed, length-words}
+use Rattle.strip.proofs.Outputs.{sets-front}
+use Rattle.word.proofs.Walks.{length-placed, length-words}
 use Rattle.convert.specs.Formats.{Format, rgbe, half, single, stored, perPixel, rgbePixels, elements}
 use Rattle.convert.specs.Converting.{checkPage, checkSource, converted}
 

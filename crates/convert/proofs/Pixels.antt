@@ -9,9 +9,9 @@ use Rattle.refusal.specs.declared.Refusal.{Refusal}
 use Rattle.refusal.specs.declared.Verdict.{Verdict}
 use Rattle.refusal.specs.declared.Verdict.the-variants.{Accepted, Refused}
 use Rattle.refusal.specs.Verdicts.{andThen}
-use Rattle.strip.specs.Words.{bodyWords}
-use Rattle.strip.specs.Placing.{Placed, firstRefusal, channelsOf}
-use Rattle.strip.proofs.Walks.{refusal-append}
+use Rattle.word.specs.Words.{bodyWords}
+use Rattle.word.specs.Placing.{Placed, firstRefusal, channelsOf}
+use Rattle.word.proofs.Walks.{refusal-append}
 use Rattle.convert.specs.Formats.{rgbePixel, rgbePixels, rgbeWord}
 
 -- the four bytes at an index, and the rest

@@ -10,14 +10,14 @@ use Rattle.number.specs.Channels.{codeOf}
 use Rattle.number.proofs.Laws.{code-channel, channel-code, half-valid, single-valid, rgbe-valid}
 use Rattle.refusal.specs.declared.Verdict.the-variants.{Accepted}
 use Rattle.refusal.proofs.Laws.{and-passed, and-met, require-met}
-use Rattle.strip.specs.declared.header.Header.{Header}
-use Rattle.strip.specs.declared.header.Headed.the-variants.{Holds}
-use Rattle.strip.specs.Words.{pixels, stripOf}
-use Rattle.strip.specs.Placing.{firstRefusal, channelsOf}
+use Rattle.word.specs.declared.header.Header.{Header}
+use Rattle.strip.specs.declared.read.Headed.the-variants.{Holds}
+use Rattle.word.specs.Words.{pixels, stripOf}
+use Rattle.word.specs.Placing.{firstRefusal, channelsOf}
 use Rattle.strip.specs.Checks.{headerIn, checkStrip}
 use Rattle.strip.specs.Reading.{channelsIn}
 use Rattle.strip.proofs.Limits.{whole}
-use Rattle.strip.proofs.Bodies.{holds}
+use Rattle.word.proofs.Decoding.{holds}
 use Rattle.strip.proofs.RoundTrip.{
   All,
   channels-valid,
@@ -98,7 +98,8 @@ reads-back f h xs room accepted =
       accepted = written-accepted h cs p Accepted refl;
       unpacked = output-accepted h cs p;
       header = simp (written-accepted h cs p Accepted refl) (ap Holds (header-written h cs p));
-      channels = ap (map codeOf) (channels-written h cs p);
+      channels = channels-written h cs p;
+      codes = ap (map codeOf) (channels-written h cs p);
     }
 
 -- ---- a page's channels as codes

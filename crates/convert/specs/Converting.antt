@@ -9,9 +9,9 @@ use Rattle.refusal.specs.declared.Refusal.the-variants.{BadSize, BadKey, WrongL
 use Rattle.refusal.specs.declared.Verdict.{Verdict}
 use Rattle.refusal.specs.declared.Verdict.the-variants.{Accepted}
 use Rattle.refusal.specs.Verdicts.{require, andThen}
-use Rattle.strip.specs.declared.header.Header.{Header}
-use Rattle.strip.specs.Words.{pixels, sizeFits, keyFits, stripOf}
-use Rattle.strip.specs.Placing.{firstRefusal, channelsOf}
+use Rattle.word.specs.declared.header.Header.{Header}
+use Rattle.word.specs.Words.{pixels, sizeFits, keyFits, stripOf}
+use Rattle.word.specs.Placing.{firstRefusal, channelsOf}
 use Rattle.convert.specs.Formats.{Format, perPixel, elements}
 
 -- the checks of a source of `count` elements, `per` of them a pixel, and of an output of `room` words: "Length: 3 × pixels + 3."

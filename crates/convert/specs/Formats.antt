@@ -4,8 +4,8 @@ use mathlib.Core.List.{List, [], _∷_, _++_}
 use Rattle.number.specs.declared.channel.Decoded.{Decoded}
 use Rattle.number.specs.Channels.{codeOf, channelOfCode}
 use Rattle.number.specs.Sources.{channelOfValue, halfValue, singleValue, rgbeValue}
-use Rattle.strip.specs.Words.{channelWord}
-use Rattle.strip.specs.Placing.{Placed, placed, channelIn}
+use Rattle.word.specs.Words.{channelWord}
+use Rattle.word.specs.Placing.{Placed, placed, channelIn}
 
 -- "RGBE", "Half", "single", "Stored"
 pub data Format : Type 0 where

@@ -4,20 +4,20 @@ ghost use mathlib.Core.Bool.{true};
 ghost use Prim.Native.Nat.{_+_, _*_, _≤_};
 ghost use lib.ListN.{length, set};
 ghost use Rattle.number.specs.Channels.{codeOf};
-ghost use Rattle.strip.specs.Words.{pixels, sizeFits, keyFits, sizeWord, keyWord, channelWord, endWord};
-ghost use Rattle.strip.specs.Placing.{channelIn};
+ghost use Rattle.word.specs.Words.{pixels, sizeFits, keyFits, sizeWord, keyWord, channelWord, endWord};
+ghost use Rattle.word.specs.Placing.{channelIn};
 ghost use Rattle.convert.specs.Converting.{checkPage};
 use number::channel::Decoded;
 use number::channel::channel_to_code;
 use refusal::Refusal;
 use refusal::Verdict;
-use strip::check::BODY_START;
-use strip::header::Header;
-use strip::header::key_fits;
-use strip::header::size_fits;
-use strip::word::channel_word;
-use strip::word::key_word;
-use strip::word::size_word;
+use word::body::BODY_START;
+use word::body::channel_word;
+use word::header::Header;
+use word::header::key_fits;
+use word::header::key_word;
+use word::header::size_fits;
+use word::header::size_word;
 
 // The checks of a source of so many elements, and an output of so many words.
 pub fn check_page(header: Header, per: u8, count: usize, room: usize) -> Verdict

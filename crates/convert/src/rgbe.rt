@@ -3,8 +3,8 @@ ghost use mathlib.Core.Path.{_≡_};
 ghost use Prim.Native.Nat.{_+_, _*_, _/_, _^_, _≤_, _<_};
 ghost use lib.ListN.{length, set};
 ghost use lib.Seq.{sets};
-ghost use Rattle.strip.specs.Words.{bodyWords};
-ghost use Rattle.strip.specs.Placing.{firstRefusal, channelsOf};
+ghost use Rattle.word.specs.Words.{bodyWords};
+ghost use Rattle.word.specs.Placing.{firstRefusal, channelsOf};
 ghost use Rattle.strip.specs.Output.{after};
 ghost use Rattle.convert.specs.Formats.{rgbe, rgbePixel, rgbeWord, elements};
 ghost use Rattle.convert.specs.Converting.{checkSource, converted};
@@ -14,9 +14,9 @@ use crate::frame::word_of;
 use number::channel::Decoded;
 use number::source::rgbe_to_channel;
 use refusal::Verdict;
-use strip::check::BODY_START;
-use strip::check::verdict_at;
-use strip::header::Header;
+use word::body::BODY_START;
+use word::body::verdict_at;
+use word::header::Header;
 
 // The first channel of a pixel that is too bright; its bytes begin at the index i.
 fn check_pixel(i: usize, red: u8, green: u8, blue: u8, exponent: u8) -> Verdict

@@ -4,17 +4,10 @@ use mathlib.Core.Path.{_≡_, refl}
 use mathlib.Core.List.{List, [], _∷_}
 use Rattle.number.specs.Channels.{channelOfCode}
 use Rattle.refusal.specs.Verdicts.{require, andThen}
-use Rattle.strip.specs.declared.header.Headed.the-variants.{Holds}
-use Rattle.strip.specs.Words.{sizeFits, keyFits}
-use Rattle.strip.specs.Checks.{
-  decodeWord,
-  checkSizeWord,
-  checkKeyWord,
-  checkHead,
-  checkBody,
-  checkWith,
-  checkStrip,
-}
+use Rattle.strip.specs.declared.read.Headed.the-variants.{Holds}
+use Rattle.word.specs.Words.{sizeFits, keyFits}
+use Rattle.word.specs.Fields.{decodeWord, checkSizeWord, checkKeyWord}
+use Rattle.strip.specs.Checks.{checkHead, checkBody, checkWith, checkStrip}
 use Rattle.strip.specs.Reading.{headerOf, codesIn}
 
 abbrev words : List ℕ

@@ -1,5 +1,5 @@
-pub mod Walks
 pub mod Limits
 pub mod Bodies
+pub mod Outputs
 pub mod RoundTrip
 mod Example

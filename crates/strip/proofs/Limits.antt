@@ -1,79 +1,30 @@
 -- What an accepted header, strip or row keeps to. Assumes nothing.
 use Prim.Native.Nat.{ℕ, _+_, _*_, _≤_}
-use mathlib.Core.Path.{_≡_, refl}
+use mathlib.Core.Path.{_≡_}
 use mathlib.Core.List.{List}
-use mathlib.Core.Bool.{Bool, true, false, _&&_}
-use native.Mathlib.Nat.{mul-le-mul, mul-le-mul-left, mul-suc}
-use native.Mathlib.Omega.{arith}
+use mathlib.Core.Bool.{true}
+use native.Mathlib.Nat.{mul-le-mul-left, mul-suc}
 use borrow.Author.Tests.{eqb-true, leb-true, ltb-true}
 use lib.ListN.{length}
 use Rattle.refusal.specs.declared.Verdict.{Verdict}
 use Rattle.refusal.specs.declared.Verdict.the-variants.{Accepted}
 use Rattle.refusal.proofs.Laws.{require-passed, and-passed}
-use Rattle.strip.specs.Words.{pixels, sizeFits, keyFits, sizeWord, keyWord, endWord}
-use Rattle.strip.specs.Placing.{firstRefusal}
+use Rattle.word.specs.Words.{pixels, sizeFits, keyFits, sizeWord, keyWord, endWord}
+use Rattle.word.specs.Placing.{firstRefusal}
 use Rattle.strip.specs.Checks.{
   wordAt,
-  widthIn,
-  heightIn,
   headerIn,
   channelCount,
   endIndex,
   declaredLength,
   body,
-  checkSizeWord,
-  checkKeyWord,
   checkHead,
   checkBody,
   checkWith,
   checkOutput,
   checkRow,
 }
-
--- ---- the limits of a page
-
-both-true : (a b : Bool) → (a && b) ≡ true → (a ≡ true) × (b ≡ true)
-both-true true b e = (refl, e)
-both-true false b e = (cc, cc)
-
-pub record Sized (w h : ℕ) : Type 0 where
-  pub wide : 1 ≤ w
-  pub width : w ≤ 8192
-  pub high : 1 ≤ h
-  pub height : h ≤ 8192
-  pub count : w * h ≤ 16777216
-
-pub size-limits : (w h : ℕ) → sizeFits w h ≡ true → Sized w h
-unfolding sizeFits
-size-limits w h e =
-    let p = both-true _ _ e in
-    let q = both-true _ _ (p .0) in
-    let r = both-true _ _ (q .0) in
-    let s = both-true _ _ (r .0) in
-    record {
-      wide = leb-true _ _ (s .0);
-      width = leb-true _ _ (s .1);
-      high = leb-true _ _ (r .1);
-      height = leb-true _ _ (q .1);
-      count = leb-true _ _ (p .1);
-    }
-
-pub record Keyed (k : ℕ) : Type 0 where
-  pub least : 1 ≤ k
-  pub most : k ≤ 1000
-
-pub key-limits : (k : ℕ) → keyFits k ≡ true → Keyed k
-unfolding keyFits
-key-limits k e =
-    let p = both-true _ _ e in
-    record { least = leb-true _ _ (p .0); most = leb-true _ _ (p .1) }
-
--- both fields of a size word have 14 bits
-pub pixels-small : (n w : ℕ) → n ≡ widthIn w * heightIn w → n ≤ 268402689
-pixels-small n w e =
-    let h : widthIn w ≤ 16383 = omega arith in
-    let k : heightIn w ≤ 16383 = omega arith in
-    omega (arith, mul-le-mul h k)
+use Rattle.word.specs.Fields.{checkSizeWord, checkKeyWord}
 
 -- ---- a strip's header and length
 

@@ -16,42 +16,28 @@ use Rattle.number.proofs.Laws.{code-channel}
 use Rattle.refusal.specs.declared.Verdict.{Verdict}
 use Rattle.refusal.specs.declared.Verdict.the-variants.{Accepted}
 use Rattle.refusal.proofs.Laws.{and-passed, and-met, require-met}
-use Rattle.strip.specs.declared.header.Header.{Header}
-use Rattle.strip.specs.Words.{
-  pixels,
-  sizeFits,
-  keyFits,
-  sizeWord,
-  keyWord,
-  channelWord,
-  bodyWords,
-  endWord,
-  stripOf,
-}
-use Rattle.strip.specs.Placing.{Placed, placed, firstRefusal, channelIn, channelsOf}
+use Rattle.word.specs.declared.header.Header.{Header}
+use Rattle.word.specs.Words.{pixels, sizeFits, keyFits, sizeWord, keyWord, channelWord, bodyWords, endWord, stripOf}
+use Rattle.word.specs.Placing.{Placed, placed, firstRefusal, channelIn, channelsOf}
 use Rattle.strip.specs.Checks.{
   wordAt,
-  widthIn,
-  heightIn,
-  low16,
   headerIn,
   channelCount,
   endIndex,
   declaredLength,
   bodyIn,
   body,
-  decodeWord,
-  checkSizeWord,
-  checkKeyWord,
   checkHead,
   checkBody,
   checkWith,
   checkOutput,
 }
+use Rattle.word.specs.Fields.{widthIn, heightIn, low16, decodeWord, checkSizeWord, checkKeyWord}
 use Rattle.strip.specs.Reading.{channelsIn}
-use Rattle.strip.proofs.Walks.{length-placed, length-words}
-use Rattle.strip.proofs.Limits.{size-limits, key-limits, Whole}
-use Rattle.strip.proofs.Bodies.{holds, is-word}
+use Rattle.word.proofs.Walks.{length-placed, length-words}
+use Rattle.word.proofs.Limits.{size-limits, key-limits}
+use Rattle.strip.proofs.Limits.{Whole}
+use Rattle.word.proofs.Decoding.{holds, is-word}
 
 -- ---- rows of elements that are read as channels, whatever f reads in one
 

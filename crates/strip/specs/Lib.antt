@@ -1,5 +1,3 @@
-pub mod Words
-pub mod Placing
 pub mod Checks
 pub mod Reading
 pub mod Output

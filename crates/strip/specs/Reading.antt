@@ -6,10 +6,10 @@ use Rattle.number.specs.declared.channel.Channel.{Channel}
 use Rattle.number.specs.Channels.{codeOf}
 use Rattle.refusal.specs.declared.Verdict.{Verdict}
 use Rattle.refusal.specs.declared.Verdict.the-variants.{Accepted, Refused}
-use Rattle.strip.specs.declared.header.Header.{Header}
-use Rattle.strip.specs.declared.header.Headed.{Headed}
-use Rattle.strip.specs.declared.header.Headed.the-variants.{Holds, Refuses}
-use Rattle.strip.specs.Placing.{channelsOf}
+use Rattle.word.specs.declared.header.Header.{Header}
+use Rattle.strip.specs.declared.read.Headed.{Headed}
+use Rattle.strip.specs.declared.read.Headed.the-variants.{Holds, Refuses}
+use Rattle.word.specs.Placing.{channelsOf}
 use Rattle.strip.specs.Checks.{headerIn, bodyStart, body, checkStrip}
 
 abbrev pub headedBy : Verdict → Header → Headed

@@ -1,58 +1,18 @@
 // The checks of a strip, in their order.
 ghost use mathlib.Core.Path.{_≡_};
-ghost use Prim.Native.Nat.{_*_};
 ghost use Rattle.refusal.specs.declared.Verdict.{Verdict};
-ghost use Rattle.strip.specs.Placing.{placed, verdictAt, firstRefusal};
-ghost use Rattle.strip.specs.Checks.{widthIn, heightIn, decodeWord, checkSizeWord, checkKeyWord, checkHead, checkBody, checkStrip, checkOutput, checkRow};
-use crate::header::key_fits;
-use crate::header::size_fits;
-use crate::word::decode_word;
-use crate::word::key_word;
-use crate::word::size_word;
+ghost use Rattle.word.specs.Placing.{placed, firstRefusal};
+ghost use Rattle.word.specs.Fields.{decodeWord};
+ghost use Rattle.strip.specs.Checks.{checkHead, checkBody, checkStrip, checkOutput, checkRow};
 use number::channel::Decoded;
 use refusal::Refusal;
 use refusal::Verdict;
-
-// The index of the first channel word.
-pub const BODY_START: usize = 2;
-
-fn check_size_word(word: u32) -> Verdict
-    ensures { λ r. ⌜ r ≡ checkSizeWord word ⌝ }
-{
-    let width = (word / 16384 % 16384) as u16;
-    let height = (word % 16384) as u16;
-    if word != size_word(width, height) {
-        return Verdict::Refused(Refusal::UnexpectedWord, 0);
-    }
-    if size_fits(width as u64, height as u64) {
-        Verdict::Accepted
-    } else {
-        Verdict::Refused(Refusal::BadSize, 0)
-    }
-}
-
-fn check_key_word(word: u32) -> Verdict
-    ensures { λ r. ⌜ r ≡ checkKeyWord word ⌝ }
-{
-    let key = (word % 65536) as u16;
-    if word != key_word(key) {
-        return Verdict::Refused(Refusal::UnexpectedWord, 1);
-    }
-    if key_fits(key as u64) {
-        Verdict::Accepted
-    } else {
-        Verdict::Refused(Refusal::BadKey, 0)
-    }
-}
-
-// The pixels that a size word declares.
-pub fn pixel_count(word: u32) -> usize
-    ensures { λ r. ⌜ r ≡ widthIn word * heightIn word ⌝ }
-{
-    let width = (word / 16384 % 16384) as usize;
-    let height = (word % 16384) as usize;
-    width * height
-}
+use word::body::BODY_START;
+use word::body::decode_word;
+use word::body::verdict_at;
+use word::header::check_key_word;
+use word::header::check_size_word;
+use word::header::pixel_count;
 
 // The header words and the length.
 pub fn check_head(strip: &[u32]) -> Verdict
@@ -73,16 +33,6 @@ pub fn check_head(strip: &[u32]) -> Verdict
         Verdict::Accepted
     } else {
         Verdict::Refused(Refusal::WrongLength, 0)
-    }
-}
-
-// The verdict on one word, which stands at index i.
-pub fn verdict_at(i: usize, decoded: Decoded) -> Verdict
-    ensures { λ r. ⌜ r ≡ verdictAt i decoded ⌝ }
-{
-    match decoded {
-        Decoded::Holds(_) => Verdict::Accepted,
-        Decoded::Refuses(refusal) => Verdict::Refused(refusal, i),
     }
 }
 

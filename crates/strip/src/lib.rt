@@ -1,6 +1,4 @@
 // The strip: its words checked, its header and channels read back, one row of it.
 pub mod check;
-pub mod header;
 pub mod read;
 pub mod row;
-pub mod word;

@@ -3,16 +3,23 @@ ghost use mathlib.Core.Path.{_≡_};
 ghost use mathlib.Core.List.{map};
 ghost use Prim.Native.Nat.{_≤_};
 ghost use lib.ListN.{length};
-ghost use Rattle.strip.specs.Checks.{low16, checkOutput};
+ghost use Rattle.word.specs.Fields.{low16};
+ghost use Rattle.strip.specs.Checks.{checkOutput};
 ghost use Rattle.strip.specs.Reading.{headerOf, codesIn};
 ghost use Rattle.strip.specs.Output.{onto, after};
-use crate::check::BODY_START;
 use crate::check::check;
 use crate::check::check_output;
-use crate::check::pixel_count;
-use crate::header::Headed;
-use crate::header::Header;
+use refusal::Refusal;
 use refusal::Verdict;
+use word::body::BODY_START;
+use word::header::Header;
+use word::header::pixel_count;
+
+// The header of an accepted strip, or its refusal with the index where it was found.
+pub enum Headed {
+    Holds(Header),
+    Refuses(Refusal, usize),
+}
 
 // The header of a strip, or its refusal.
 pub fn header(strip: &[u32]) -> Headed

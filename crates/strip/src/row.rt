@@ -2,9 +2,9 @@
 ghost use mathlib.Core.Path.{_≡_};
 ghost use Rattle.strip.specs.Checks.{checkRow};
 ghost use Rattle.strip.specs.Reading.{rowPart, wordsOf, pointerTo};
-use crate::check::BODY_START;
 use crate::check::check_row;
 use refusal::Verdict;
+use word::body::BODY_START;
 
 // The words of row y, from the red word of its first pixel to the blue word of its last; the empty part where `check_row` refuses.
 pub fn row(strip: &[u32], y: usize) -> &[u32]

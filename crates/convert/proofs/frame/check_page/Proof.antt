@@ -7,8 +7,8 @@ use native.Mathlib.Omega.{arith}
 use native.Mathlib.Nat.{mul-le-mul}
 use borrow.Author.Tests.{le-leb, lt-leb, eq-eqb, ne-eqb, not-true, not-false}
 use Rattle.refusal.specs.Verdicts.{require}
-use Rattle.strip.specs.Words.{sizeFits, keyFits}
-use Rattle.strip.proofs.Limits.{size-limits}
+use Rattle.word.specs.Words.{sizeFits, keyFits}
+use Rattle.word.proofs.Limits.{size-limits}
 use Rattle.convert.specs.Converting.{checkPage}
 use Rattle.convert.proofs.frame.check_page.Statement.{statement}
 use Rattle.convert.proofs.frame.check_page.Tie as tie

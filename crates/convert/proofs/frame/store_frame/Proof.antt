@@ -2,7 +2,7 @@
 use borrow.Author.Needs.{needs}
 use native.Mathlib.Omega.{arith}
 use lib.ListN.{length-set}
-use Rattle.strip.proofs.Limits.{size-limits, key-limits}
+use Rattle.word.proofs.Limits.{size-limits, key-limits}
 use Rattle.convert.proofs.frame.store_frame.Statement.{statement}
 use Rattle.convert.proofs.frame.store_frame.Tie as tie
 

@@ -4,7 +4,7 @@ use borrow.Author.Needs.{needs}
 use Prim.Native.Nat.{_-_}
 use mathlib.Core.Path.{_≡_}
 use native.Mathlib.Omega.{arith}
-use Rattle.strip.specs.Placing.{firstRefusal}
+use Rattle.word.specs.Placing.{firstRefusal}
 use Rattle.convert.specs.Formats.{rgbe, elements}
 use Rattle.convert.proofs.Pixels.{left, left-all, pixels-next, pixels-refused, pixels-done}
 use Rattle.convert.proofs.rgbe.check_rgbe.Statement.{statement}

@@ -5,8 +5,8 @@ use mathlib.Core.Path.{_≡_, refl}
 use native.Mathlib.Omega.{arith}
 use lib.ListN.{length}
 use lib.Seq.{sets}
-use Rattle.strip.specs.Words.{bodyWords}
-use Rattle.strip.specs.Placing.{channelsOf}
+use Rattle.word.specs.Words.{bodyWords}
+use Rattle.word.specs.Placing.{channelsOf}
 use Rattle.convert.specs.Formats.{rgbe, elements}
 use Rattle.convert.proofs.Pixels.{writing, writing-all, writing-next, writing-done}
 use Rattle.convert.proofs.rgbe.store_rgbe.Statement.{statement}

@@ -5,8 +5,8 @@ use Prim.Native.Nat.{_-_}
 use mathlib.Core.Path.{_≡_}
 use native.Mathlib.Nat.{zero-add}
 use lib.ListN.{length}
-use Rattle.strip.specs.Placing.{firstRefusal}
-use Rattle.strip.proofs.Walks.{checking, checking-all, checking-next, checking-refused, checking-done}
+use Rattle.word.specs.Placing.{firstRefusal}
+use Rattle.word.proofs.Walks.{checking, checking-all, checking-next, checking-refused, checking-done}
 use Rattle.convert.specs.Formats.{stored, storedElement, elements}
 use Rattle.convert.proofs.stored.check_stored.Statement.{statement}
 use Rattle.convert.proofs.stored.check_stored.Tie as tie

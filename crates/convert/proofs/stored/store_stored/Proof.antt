@@ -4,9 +4,9 @@ use Prim.Native.Nat.{_-_}
 use mathlib.Core.Path.{_≡_, refl}
 use lib.ListN.{length}
 use lib.Seq.{sets}
-use Rattle.strip.specs.Words.{bodyWords}
-use Rattle.strip.specs.Placing.{channelsOf}
-use Rattle.strip.proofs.Walks.{writing, writing-all, writing-next, writing-done}
+use Rattle.word.specs.Words.{bodyWords}
+use Rattle.word.specs.Placing.{channelsOf}
+use Rattle.word.proofs.Walks.{writing, writing-all, writing-next, writing-done}
 use Rattle.convert.specs.Formats.{stored, storedElement, elements}
 use Rattle.convert.proofs.stored.store_stored.Statement.{statement}
 use Rattle.convert.proofs.stored.store_stored.Tie as tie

@@ -9,7 +9,8 @@ use lib.ListN.{length}
 use denote.Ref.{now}
 use Rattle.refusal.specs.Verdicts.{require, andThen}
 use Rattle.strip.specs.Checks.{checkBody}
-use Rattle.strip.proofs.Limits.{headed, pixels-small}
+use Rattle.strip.proofs.Limits.{headed}
+use Rattle.word.proofs.Limits.{pixels-small}
 use Rattle.strip.proofs.check.check_body.Statement.{statement}
 use Rattle.strip.proofs.check.check_body.Tie as tie
 

@@ -3,9 +3,9 @@ use borrow.Author.Needs.{needs}
 use Prim.Native.Nat.{_-_}
 use mathlib.Core.Path.{_≡_, refl}
 use lib.ListN.{length}
-use Rattle.strip.specs.Placing.{placed, firstRefusal}
-use Rattle.strip.specs.Checks.{decodeWord}
-use Rattle.strip.proofs.Walks.{checking, checking-all, checking-next, checking-refused, checking-done}
+use Rattle.word.specs.Placing.{placed, firstRefusal}
+use Rattle.word.specs.Fields.{decodeWord}
+use Rattle.word.proofs.Walks.{checking, checking-all, checking-next, checking-refused, checking-done}
 use Rattle.strip.proofs.check.check_channels.Statement.{statement}
 use Rattle.strip.proofs.check.check_channels.Tie as tie
 

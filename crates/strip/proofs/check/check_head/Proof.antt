@@ -7,8 +7,9 @@ use lib.ListN.{length}
 use denote.Ref.{now}
 use Rattle.refusal.specs.declared.Verdict.the-variants.{Accepted}
 use Rattle.refusal.specs.Verdicts.{require, andThen}
-use Rattle.strip.specs.Checks.{wordAt, declaredLength, checkSizeWord, checkKeyWord, checkHead}
-use Rattle.strip.proofs.Limits.{pixels-small}
+use Rattle.strip.specs.Checks.{wordAt, declaredLength, checkHead}
+use Rattle.word.specs.Fields.{checkSizeWord, checkKeyWord}
+use Rattle.word.proofs.Limits.{pixels-small}
 use Rattle.strip.proofs.check.check_head.Statement.{statement}
 use Rattle.strip.proofs.check.check_head.Tie as tie
 

@@ -6,7 +6,8 @@ use borrow.Author.Tests.{le-leb, lt-leb}
 use denote.Ref.{now}
 use Rattle.refusal.specs.Verdicts.{require, andThen}
 use Rattle.strip.specs.Checks.{checkWith, checkOutput}
-use Rattle.strip.proofs.Limits.{Head, headed, pixels-small}
+use Rattle.strip.proofs.Limits.{Head, headed}
+use Rattle.word.proofs.Limits.{pixels-small}
 use Rattle.strip.proofs.check.check_output.Statement.{statement}
 use Rattle.strip.proofs.check.check_output.Tie as tie
 

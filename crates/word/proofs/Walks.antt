@@ -3,10 +3,9 @@ use Prim.Native.Nat.{ℕ, suc, _+_, _<_, _≤_}
 use mathlib.Core.Path.{_≡_, refl, sym, ap, _∙_}
 use mathlib.Core.List.{List, [], _∷_, _++_}
 use native.Mathlib.Numerals.{add-one}
-use native.Mathlib.Nat.{zero-add}
 use native.Mathlib.Omega.{arith}
 use lib.ListN.{length, getD, set, drop, length-set, drop-of-length-le}
-use lib.Seq.{drop-cons, sets, sets-eq}
+use lib.Seq.{drop-cons, sets}
 use Rattle.number.specs.declared.channel.Channel.{Channel}
 use Rattle.number.specs.declared.channel.Decoded.{Decoded}
 use Rattle.number.specs.declared.channel.Decoded.the-variants.{Holds, Refuses}
@@ -16,9 +15,8 @@ use Rattle.refusal.specs.declared.Verdict.the-variants.{Accepted}
 use Rattle.refusal.specs.Verdicts.{andThen}
 use Rattle.refusal.proofs.Laws.{and-assoc}
 use Rattle.number.specs.Channels.{codeOf}
-use Rattle.strip.specs.Words.{channelWord, bodyWords}
-use Rattle.strip.specs.Placing.{Placed, placed, verdictAt, firstRefusal, channelIn, channelsOf}
-use Rattle.strip.specs.Output.{onto}
+use Rattle.word.specs.Words.{channelWord, bodyWords}
+use Rattle.word.specs.Placing.{Placed, placed, verdictAt, firstRefusal, channelIn, channelsOf}
 
 -- ---- A loop that checks: at each turn the verdict on the elements that are left, from number i on, is that on all.
 
@@ -71,9 +69,6 @@ module _ (vs : List ℕ) (i j : ℕ) (t : List ℕ) {n : ℕ} {u : List ℕ} (in
   pub storing-done : length vs ≤ i → t ≡ u
   unfolding storing
   storing-done h = rw (drop-of-length-le vs h) at (inv .1)
-
-pub sets-front : (vs t : List ℕ) → length vs ≤ length t → sets t 0 vs ≡ onto vs t
-sets-front vs t h = sets-eq vs t 0 (rw zero-add h) ∙ rw (zero-add (length vs))
 
 -- the words of the elements from number i on
 unfoldable pub writing : (f : ℕ → ℕ → Decoded) → List ℕ → (i : ℕ) → List ℕ → List ℕ

@@ -6,7 +6,7 @@ use mathlib.Core.Bool.{Bool, _&&_}
 use lib.Dec.{leb}
 use Rattle.number.specs.declared.channel.Channel.{Channel}
 use Rattle.number.specs.Channels.{codeOf}
-use Rattle.strip.specs.declared.header.Header.{Header}
+use Rattle.word.specs.declared.header.Header.{Header}
 
 -- ---- the page
 

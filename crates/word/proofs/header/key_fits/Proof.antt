@@ -1,8 +1,8 @@
--- `strip::header::key_fits` meets its contract. Assumes nothing.
+-- `word::header::key_fits` meets its contract. Assumes nothing.
 use borrow.Author.Tests.{le-leb, lt-leb}
-use Rattle.strip.specs.Words.{keyFits}
-use Rattle.strip.proofs.header.key_fits.Statement.{statement}
-use Rattle.strip.proofs.header.key_fits.Tie as tie
+use Rattle.word.specs.Words.{keyFits}
+use Rattle.word.proofs.header.key_fits.Statement.{statement}
+use Rattle.word.proofs.header.key_fits.Tie as tie
 
 returns : tie.Need-returns
 unfolding keyFits

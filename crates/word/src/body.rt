@@ -1,24 +1,15 @@
-// The words of a strip, one at a time.
+// The channel words of a strip.
 ghost use mathlib.Core.Path.{_≡_};
-ghost use Rattle.strip.specs.Words.{sizeWord, keyWord, channelWord};
-ghost use Rattle.strip.specs.Checks.{decodeWord};
+ghost use Rattle.word.specs.Words.{channelWord};
+ghost use Rattle.word.specs.Fields.{decodeWord};
+ghost use Rattle.word.specs.Placing.{verdictAt};
 use number::channel::Decoded;
 use number::channel::code_to_channel;
 use refusal::Refusal;
+use refusal::Verdict;
 
-// The size word of a page.
-pub fn size_word(width: u16, height: u16) -> u32
-    ensures { λ r. ⌜ r ≡ sizeWord width height ⌝ }
-{
-    268435456 + (width as u32) * 16384 + height as u32
-}
-
-// The key word of a page.
-pub fn key_word(key: u16) -> u32
-    ensures { λ r. ⌜ r ≡ keyWord key ⌝ }
-{
-    2 * 268435456 + key as u32
-}
+// The index of the first channel word.
+pub const BODY_START: usize = 2;
 
 // The word of channel k of a page, from the channel's 16-bit form.
 pub fn channel_word(k: usize, code: u16) -> u32
@@ -36,5 +27,15 @@ pub fn decode_word(k: usize, word: u32) -> Decoded
         code_to_channel(code)
     } else {
         Decoded::Refuses(Refusal::UnexpectedWord)
+    }
+}
+
+// The verdict on what an element or word stands for; its index is i.
+pub fn verdict_at(i: usize, decoded: Decoded) -> Verdict
+    ensures { λ r. ⌜ r ≡ verdictAt i decoded ⌝ }
+{
+    match decoded {
+        Decoded::Holds(_) => Verdict::Accepted,
+        Decoded::Refuses(refusal) => Verdict::Refused(refusal, i),
     }
 }

@@ -1,10 +1,10 @@
--- `strip::word::decode_word` meets its contract. Assumes nothing.
+-- `word::body::decode_word` meets its contract. Assumes nothing.
 use borrow.Author.Needs.{needs}
 use mathlib.Core.Path.{_∙_, sym}
 use borrow.Author.Tests.{eq-eqb, ne-eqb}
-use Rattle.strip.specs.Checks.{decodeWord}
-use Rattle.strip.proofs.word.decode_word.Statement.{statement}
-use Rattle.strip.proofs.word.decode_word.Tie as tie
+use Rattle.word.specs.Fields.{decodeWord}
+use Rattle.word.proofs.body.decode_word.Statement.{statement}
+use Rattle.word.proofs.body.decode_word.Tie as tie
 
 returns : tie.Need-returns
 unfolding decodeWord

@@ -1,10 +1,10 @@
--- `strip::header::size_fits` meets its contract. Assumes nothing.
+-- `word::header::size_fits` meets its contract. Assumes nothing.
 use native.Mathlib.Omega.{arith}
 use native.Mathlib.Nat.{mul-le-mul}
 use borrow.Author.Tests.{le-leb, lt-leb}
-use Rattle.strip.specs.Words.{sizeFits}
-use Rattle.strip.proofs.header.size_fits.Statement.{statement}
-use Rattle.strip.proofs.header.size_fits.Tie as tie
+use Rattle.word.specs.Words.{sizeFits}
+use Rattle.word.proofs.header.size_fits.Statement.{statement}
+use Rattle.word.proofs.header.size_fits.Tie as tie
 
 returns : tie.Need-returns
 unfolding sizeFits

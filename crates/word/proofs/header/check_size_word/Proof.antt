@@ -1,11 +1,11 @@
--- `strip::check::check_size_word` meets its contract. Assumes nothing.
+-- `word::header::check_size_word` meets its contract. Assumes nothing.
 use borrow.Author.Needs.{needs}
 use mathlib.Core.Path.{sym, _∙_}
 use borrow.Author.Tests.{eq-eqb, ne-eqb}
 use Rattle.refusal.specs.Verdicts.{require}
-use Rattle.strip.specs.Checks.{checkSizeWord}
-use Rattle.strip.proofs.check.check_size_word.Statement.{statement}
-use Rattle.strip.proofs.check.check_size_word.Tie as tie
+use Rattle.word.specs.Fields.{checkSizeWord}
+use Rattle.word.proofs.header.check_size_word.Statement.{statement}
+use Rattle.word.proofs.header.check_size_word.Tie as tie
 
 returns : tie.Need-returns
 unfolding checkSizeWord require

@@ -1,11 +1,11 @@
--- `strip::check::pixel_count` meets its contract: two fields of 14 bits. Assumes nothing.
+-- `word::header::pixel_count` meets its contract: two fields of 14 bits. Assumes nothing.
 use borrow.Author.Needs.{needs}
 use Prim.Native.Nat.{_≤_}
 use native.Mathlib.Omega.{arith}
 use native.Mathlib.Nat.{mul-le-mul}
-use Rattle.strip.specs.Checks.{widthIn, heightIn}
-use Rattle.strip.proofs.check.pixel_count.Statement.{statement}
-use Rattle.strip.proofs.check.pixel_count.Tie as tie
+use Rattle.word.specs.Fields.{widthIn, heightIn}
+use Rattle.word.proofs.header.pixel_count.Statement.{statement}
+use Rattle.word.proofs.header.pixel_count.Tie as tie
 
 mul-result : tie.Need-mul-result
 mul-result c =

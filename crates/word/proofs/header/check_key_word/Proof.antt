@@ -1,11 +1,11 @@
--- `strip::check::check_key_word` meets its contract. Assumes nothing.
+-- `word::header::check_key_word` meets its contract. Assumes nothing.
 use borrow.Author.Needs.{needs}
 use mathlib.Core.Path.{sym, _∙_}
 use borrow.Author.Tests.{eq-eqb, ne-eqb}
 use Rattle.refusal.specs.Verdicts.{require}
-use Rattle.strip.specs.Checks.{checkKeyWord}
-use Rattle.strip.proofs.check.check_key_word.Statement.{statement}
-use Rattle.strip.proofs.check.check_key_word.Tie as tie
+use Rattle.word.specs.Fields.{checkKeyWord}
+use Rattle.word.proofs.header.check_key_word.Statement.{statement}
+use Rattle.word.proofs.header.check_key_word.Tie as tie
 
 returns : tie.Need-returns
 unfolding checkKeyWord require

@@ -1,0 +1,36 @@
+-- What an accepted channel word is. Assumes nothing.
+use Prim.Native.Nat.{ℕ}
+use mathlib.Core.Path.{_≡_, refl}
+use mathlib.Core.Bool.{Bool, true, false, cond}
+use lib.Dec.{eqb}
+use borrow.Author.Tests.{eqb-true}
+use Rattle.number.specs.declared.channel.Channel.{Channel}
+use Rattle.number.specs.declared.channel.Decoded.{Decoded}
+use Rattle.number.specs.declared.channel.Decoded.the-variants.{Holds, Refuses}
+use Rattle.number.specs.Channels.{channelOfCode}
+use Rattle.number.proofs.Laws.{Coded, channel-code}
+use Rattle.refusal.specs.declared.Refusal.the-variants.{UnexpectedWord}
+use Rattle.refusal.specs.declared.Verdict.the-variants.{Accepted}
+use Rattle.word.specs.Words.{channelWord}
+use Rattle.word.specs.Fields.{low16, decodeWord}
+use Rattle.word.specs.Placing.{verdictAt, channelIn}
+
+-- what is accepted holds its channel
+pub holds : (i : ℕ) (d : Decoded) → verdictAt i d ≡ Accepted → d ≡ Holds (channelIn d)
+holds i (Holds c) e = refl
+holds i (Refuses r) e = cc
+
+kind-read : (b : Bool) (d : Decoded) (c : Channel) → cond b d (Refuses UnexpectedWord) ≡ Holds c → (b ≡ true) × (d ≡ Holds c)
+kind-read true d c e = (refl, e)
+kind-read false d c e = (cc, cc)
+
+-- a word that is read as channel k is written from its own lower half, which is the channel's code
+pub record IsWord (k w : ℕ) (c : Channel) : Type 0 where
+  pub written : w ≡ channelWord k (low16 w)
+  pub coded : Coded (low16 w) c
+
+pub is-word : (k w : ℕ) {c : Channel} → decodeWord k w ≡ Holds c → IsWord k w c
+unfolding decodeWord
+is-word k w e =
+    let q = kind-read (eqb w (channelWord k (low16 w))) (channelOfCode (low16 w)) _ e in
+    record { written = eqb-true _ _ (q .0); coded = channel-code _ _ (q .1) }

@@ -1,0 +1,3 @@
+pub mod Words
+pub mod Fields
+pub mod Placing

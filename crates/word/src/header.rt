@@ -1,0 +1,103 @@
+// A page's header, its limits, and the two words that it stands in.
+ghost use mathlib.Core.Path.{_≡_};
+ghost use Prim.Native.Nat.{_*_};
+ghost use Rattle.word.specs.Words.{sizeFits, keyFits, sizeWord, keyWord};
+ghost use Rattle.word.specs.Fields.{widthIn, heightIn, checkSizeWord, checkKeyWord};
+use refusal::Refusal;
+use refusal::Verdict;
+
+// Width, height and key of a page: any numbers, and within the limits in an accepted strip.
+pub struct Header {
+    pub width: u64,
+    pub height: u64,
+    pub key: u64,
+}
+
+const GREATEST_SIDE: u64 = 8192;
+
+const MOST_PIXELS: u64 = 16777216;
+
+const GREATEST_KEY: u64 = 1000;
+
+// Whether a page may have this width and height.
+pub fn size_fits(width: u64, height: u64) -> bool
+    ensures { λ r. ⌜ r ≡ sizeFits width height ⌝ }
+{
+    if width < 1 {
+        return false;
+    }
+    if GREATEST_SIDE < width {
+        return false;
+    }
+    if height < 1 {
+        return false;
+    }
+    if GREATEST_SIDE < height {
+        return false;
+    }
+    width * height <= MOST_PIXELS
+}
+
+// Whether a page may have this key.
+pub fn key_fits(key: u64) -> bool
+    ensures { λ r. ⌜ r ≡ keyFits key ⌝ }
+{
+    if key < 1 {
+        return false;
+    }
+    key <= GREATEST_KEY
+}
+
+// The size word of a page.
+pub fn size_word(width: u16, height: u16) -> u32
+    ensures { λ r. ⌜ r ≡ sizeWord width height ⌝ }
+{
+    268435456 + (width as u32) * 16384 + height as u32
+}
+
+// The key word of a page.
+pub fn key_word(key: u16) -> u32
+    ensures { λ r. ⌜ r ≡ keyWord key ⌝ }
+{
+    2 * 268435456 + key as u32
+}
+
+// The first word of a strip.
+pub fn check_size_word(word: u32) -> Verdict
+    ensures { λ r. ⌜ r ≡ checkSizeWord word ⌝ }
+{
+    let width = (word / 16384 % 16384) as u16;
+    let height = (word % 16384) as u16;
+    if word != size_word(width, height) {
+        return Verdict::Refused(Refusal::UnexpectedWord, 0);
+    }
+    if size_fits(width as u64, height as u64) {
+        Verdict::Accepted
+    } else {
+        Verdict::Refused(Refusal::BadSize, 0)
+    }
+}
+
+// The second word of a strip.
+pub fn check_key_word(word: u32) -> Verdict
+    ensures { λ r. ⌜ r ≡ checkKeyWord word ⌝ }
+{
+    let key = (word % 65536) as u16;
+    if word != key_word(key) {
+        return Verdict::Refused(Refusal::UnexpectedWord, 1);
+    }
+    if key_fits(key as u64) {
+        Verdict::Accepted
+    } else {
+        Verdict::Refused(Refusal::BadKey, 0)
+    }
+}
+
+// The pixels that a size word declares.
+pub fn pixel_count(word: u32) -> usize
+    ensures { λ r. ⌜ r ≡ widthIn word * heightIn word ⌝ }
+{
+    let width = (word / 16384 % 16384) as usize;
+    let height = (word % 16384) as usize;
+    width * height
+}

@@ -1,0 +1,3 @@
+// The words of a strip, one at a time.
+pub mod body;
+pub mod header;
