@@ -1,4 +1,5 @@
 -- What reading and writing a strip are to each other: claims about the definitions that the contracts cite. Assumes nothing.
+-- Each is proved in proofs/RoundTrip.antt: `reads-back`, `writes-again`, `converts-by-codes`.
 use Prim.Native.Nat.{ℕ, _*_, _≤_}
 use mathlib.Core.Path.{_≡_}
 use mathlib.Core.List.{List}
@@ -13,8 +14,8 @@ use Rattle.strip.specs.Reading.{headerOf, channelsIn, codesIn}
 use Rattle.convert.specs.Formats.{Format, stored, elements}
 use Rattle.convert.specs.Converting.{checkSource, converted, codesOf}
 
--- "A strip read back yields the pixels and key it was written from": what a conversion wrote is accepted, also for unpacking, and yields
--- the width, height and key that were given and the channels that the source stands for.
+-- What a conversion wrote is accepted, also for unpacking, and yields the width, height and key that were given and the channels that the
+-- source stands for.
 pub record ReadBack (f : Format) (h : Header) (xs : List ℕ) : Type 0 where
   pub accepted : checkStrip (converted f h xs) ≡ Accepted
   pub unpacked : (room : ℕ) → 3 * pixels h ≤ room → checkOutput (converted f h xs) room ≡ Accepted
@@ -25,7 +26,7 @@ pub record ReadBack (f : Format) (h : Header) (xs : List ℕ) : Type 0 where
 abbrev pub ReadsBack : Type 0
 ReadsBack = (f : Format) (h : Header) (xs : List ℕ) (room : ℕ) → checkSource f h xs room ≡ Accepted → ReadBack f h xs
 
--- "an accepted strip written again is the same words": an accepted strip, unpacked and converted again with its own size and key, is accepted and is the same words.
+-- An accepted strip, unpacked and converted again with its own size and key, is accepted and is the same words.
 pub record WrittenAgain (s : List ℕ) : Type 0 where
   pub accepted : (room : ℕ) → length s ≤ room → checkSource stored (headerIn s) (codesIn s) room ≡ Accepted
   pub words : converted stored (headerIn s) (codesIn s) ≡ s
