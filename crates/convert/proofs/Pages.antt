@@ -14,19 +14,19 @@ use Rattle.refusal.specs.declared.Verdict.the-variants.{Accepted, Refused}
 use Rattle.refusal.specs.Verdicts.{andThen}
 use Rattle.refusal.proofs.Laws.{require-passed}
 use Rattle.word.specs.declared.header.Header.{Header}
-use Rattle.word.specs.Words.{pixels, sizeFits, keyFits, sizeWord, keyWord, bodyWords, endWord, stripOf}
+use Rattle.word.specs.Words.{pixels, sizeFits, keyFits, sizeWord, keyWord, bodyWords, endWord, endIndex, stripLength, stripOf}
 use Rattle.word.specs.Placing.{Placed, firstRefusal, channelIn, channelsOf}
 use Rattle.strip.specs.Output.{onto, after}
 use Rattle.strip.proofs.Outputs.{sets-front}
 use Rattle.word.proofs.Walks.{length-placed, length-words}
-use Rattle.convert.specs.Formats.{Format, rgbe, half, single, stored, perPixel, rgbePixels, elements}
+use Rattle.convert.specs.Formats.{Format, rgbe, half, single, stored, perPixel, rgbePixels, decodedSource}
 use Rattle.convert.specs.Converting.{checkPage, checkSource, converted}
 
 pub record Page (h : Header) (per count room : ℕ) : Type 0 where
   pub size : sizeFits (h .width) (h .height) ≡ true
   pub key : keyFits (h .key) ≡ true
   pub long : count ≡ per * pixels h
-  pub fits : 3 * pixels h + 3 ≤ room
+  pub fits : stripLength h ≤ room
 
 pub page : (h : Header) (per count room : ℕ) → checkPage h per count room ≡ Accepted → Page h per count room
 unfolding checkPage
@@ -52,15 +52,15 @@ length-pixels i (suc n) (r ∷ g ∷ []) e = absurd (omega arith)
 length-pixels i (suc n) (r ∷ g ∷ b ∷ []) e = absurd (omega arith)
 length-pixels i (suc n) (r ∷ g ∷ b ∷ e ∷ xs) h = omega (arith, length-pixels (i + 4) n xs (omega arith))
 
-length-elements : (f : Format) (n : ℕ) (xs : List ℕ) → length xs ≡ perPixel f * n → length (elements f xs) ≡ 3 * n
+length-elements : (f : Format) (n : ℕ) (xs : List ℕ) → length xs ≡ perPixel f * n → length (decodedSource f xs) ≡ 3 * n
 length-elements rgbe n xs e = length-pixels 0 n xs e
 length-elements half n xs e = length-placed _ 0 0 xs ∙ e
 length-elements single n xs e = length-placed _ 0 0 xs ∙ e
 length-elements stored n xs e = length-placed _ 0 0 xs ∙ e
 
 pub channel-count : (f : Format) (n : ℕ) (xs : List ℕ) → length xs ≡ perPixel f * n
-    → length (channelsOf (elements f xs)) ≡ 3 * n
-channel-count f n xs e = length-map (elements f xs) (λ (p : Placed). channelIn (p .decoded)) ∙ length-elements f n xs e
+    → length (channelsOf (decodedSource f xs)) ≡ 3 * n
+channel-count f n xs e = length-map (decodedSource f xs) (λ (p : Placed). channelIn (p .decoded)) ∙ length-elements f n xs e
 
 -- ---- stores at other places, in any order
 
@@ -68,7 +68,7 @@ channel-count f n xs e = length-map (elements f xs) (λ (p : Placed). channelIn 
 abbrev pub withFrame : Header → List ℕ → List ℕ
 withFrame h t =
     let size = set t 0 (sizeWord (h .width) (h .height)) in
-    set (set size 1 (keyWord (h .key))) (2 + 3 * pixels h) (endWord (pixels h))
+    set (set size 1 (keyWord (h .key))) (endIndex h) (endWord (pixels h))
 
 before : (t : List ℕ) (i j : ℕ) (vs : List ℕ) (a : ℕ) → i < j → set (sets t j vs) i a ≡ sets (set t i a) j vs
 before t i j [] a h = refl
@@ -82,7 +82,7 @@ behind t i (a ∷ vs) v =
     rw e (behind (set t i a) (suc i) vs v)
 
 -- the channel words, then the words around them
-pub framed : (h : Header) (cs : List Channel) (t : List ℕ) → length cs ≡ 3 * pixels h → 3 * pixels h + 3 ≤ length t
+pub framed : (h : Header) (cs : List Channel) (t : List ℕ) → length cs ≡ 3 * pixels h → stripLength h ≤ length t
     → withFrame h (sets t 2 (bodyWords 0 cs)) ≡ onto (stripOf h cs) t
 framed h cs t n fits =
     let a = sizeWord (h .width) (h .height) in
@@ -106,16 +106,16 @@ module _ (f : Format) (h : Header) (xs t : List ℕ) where
     unfolding checkSource andThen
     page-refused told = (simp (sym e, told), simp told)
 
-    module _ (ok : p ≡ Accepted) {v : Verdict} (g : v ≡ firstRefusal (elements f xs)) where
+    module _ (ok : p ≡ Accepted) {v : Verdict} (g : v ≡ firstRefusal (decodedSource f xs)) where
       pub element-refused : {r : Refusal} {i : ℕ} → v ≡ Refused r i → Result v t
       unfolding checkSource andThen
       element-refused told = (simp (sym e, ok) g, simp told)
 
       pub accepted : {u : List ℕ} → v ≡ Accepted
-          → u ≡ withFrame h (sets t 2 (bodyWords 0 (channelsOf (elements f xs))))
+          → u ≡ withFrame h (sets t 2 (bodyWords 0 (channelsOf (decodedSource f xs))))
           → Result Accepted u
       unfolding checkSource andThen
       accepted told stores =
           let q = page h _ _ _ (sym e ∙ ok) in
-          let made = framed h (channelsOf (elements f xs)) t (channel-count f _ xs (q .long)) (q .fits) in
+          let made = framed h (channelsOf (decodedSource f xs)) t (channel-count f _ xs (q .long)) (q .fits) in
           (simp (sym e, ok) (sym told ∙ g), stores ∙ made)

@@ -1,6 +1,6 @@
 -- The claims of `specs/Claims.antt`. Assumes nothing.
 use Prim.Native.Nat.{ℕ, _+_, _*_, _≤_}
-use mathlib.Core.Path.{_≡_, refl, ap, _∙_}
+use mathlib.Core.Path.{_≡_, refl, ap, subst, _∙_}
 use mathlib.Core.List.{List, [], _∷_, map}
 use native.Mathlib.Omega.{arith}
 use borrow.Author.Tests.{eq-eqb, le-leb}
@@ -11,13 +11,14 @@ use Rattle.number.proofs.Laws.{code-channel, channel-code, half-valid, single-v
 use Rattle.refusal.specs.declared.Verdict.the-variants.{Accepted}
 use Rattle.refusal.proofs.Laws.{and-passed, and-met, require-met}
 use Rattle.word.specs.declared.header.Header.{Header}
-use Rattle.strip.specs.declared.read.Headed.the-variants.{Holds}
-use Rattle.word.specs.Words.{pixels, stripOf}
-use Rattle.word.specs.Placing.{firstRefusal, channelsOf}
-use Rattle.strip.specs.Checks.{headerIn, checkStrip}
-use Rattle.strip.specs.Reading.{channelsIn}
+use Rattle.strip.specs.declared.read.HeaderOrRefusal.{HeaderOrRefusal}
+use Rattle.number.specs.declared.channel.Decoded.{Decoded}
+use Rattle.word.specs.Words.{pixels, stripLength, stripOf}
+use Rattle.word.specs.Placing.{firstRefusal, decodedOf, channelsOf}
+use Rattle.strip.specs.Checks.{headerFields, decodedBody, checkStrip}
+use Rattle.strip.specs.Reading.{stripChannels}
 use Rattle.strip.proofs.Limits.{whole}
-use Rattle.word.proofs.Decoding.{holds}
+use Rattle.word.proofs.Decoding.{holds, all-held}
 use Rattle.strip.proofs.RoundTrip.{
   All,
   channels-valid,
@@ -25,6 +26,7 @@ use Rattle.strip.proofs.RoundTrip.{
   row-read,
   IsPage,
   header-written,
+  length-written,
   written-accepted,
   output-accepted,
   channels-written,
@@ -42,10 +44,10 @@ use Rattle.convert.specs.Formats.{
   singleElement,
   storedElement,
   rgbePixels,
-  elements,
+  decodedSource,
 }
 use Rattle.convert.specs.Converting.{checkPage, checkSource, converted}
-use Rattle.convert.specs.Claims.{ReadsBack, WritesAgain, ConvertsByCodes}
+use Rattle.convert.specs.Claims.{Yields, ReadsBack, WritesAgain, ConvertsByCodes}
 use Rattle.convert.proofs.Pages.{Page, page, channel-count}
 
 -- ---- every channel of an accepted source is one
@@ -64,7 +66,7 @@ pixels-valid i (r ∷ g ∷ b ∷ e ∷ xs) h =
     let blue = rgbe-valid _ b e (holds _ _ (q₃ .0)) in
     (red, (green, (blue, pixels-valid (i + 4) xs (q₃ .1))))
 
-elements-valid : (f : Format) (xs : List ℕ) → firstRefusal (elements f xs) ≡ Accepted → All (channelsOf (elements f xs))
+elements-valid : (f : Format) (xs : List ℕ) → firstRefusal (decodedSource f xs) ≡ Accepted → All (channelsOf (decodedSource f xs))
 elements-valid rgbe xs e = pixels-valid 0 xs e
 elements-valid half xs e = channels-valid halfElement (λ k b c. half-valid c b) 0 0 xs e
 elements-valid single xs e = channels-valid singleElement (λ k b c. single-valid c b) 0 0 xs e
@@ -73,14 +75,14 @@ elements-valid stored xs e = channels-valid storedElement (λ k n c h. channel-c
 -- ---- an accepted source is a page
 
 module _ (f : Format) (h : Header) (xs : List ℕ) (room : ℕ) (accepted : checkSource f h xs room ≡ Accepted) where
-  parts : (checkPage h (perPixel f) (length xs) room ≡ Accepted) × (firstRefusal (elements f xs) ≡ Accepted)
+  parts : (checkPage h (perPixel f) (length xs) room ≡ Accepted) × (firstRefusal (decodedSource f xs) ≡ Accepted)
   unfolding checkSource
   parts = and-passed _ _ accepted
 
   limits : Page h (perPixel f) (length xs) room
   limits = page h _ _ _ (parts .0)
 
-  is-page : IsPage h (channelsOf (elements f xs))
+  is-page : IsPage h (channelsOf (decodedSource f xs))
   is-page =
       record {
         size = limits .size;
@@ -89,18 +91,26 @@ module _ (f : Format) (h : Header) (xs : List ℕ) (room : ℕ) (accepted : chec
         valid = elements-valid f xs (parts .1);
       }
 
-pub reads-back : ReadsBack
+-- ---- what a written page yields
+
+page-yields : (h : Header) (cs : List Channel) → IsPage h cs → Yields (stripOf h cs) h (map Decoded.Holds cs)
 unfolding checkStrip
-reads-back f h xs room accepted =
-    let p = is-page f h xs room accepted in
-    let cs = channelsOf (elements f xs) in
+page-yields h cs p =
+    let ok = written-accepted h cs p Accepted refl in
+    let same = channels-written h cs p in
     record {
-      accepted = written-accepted h cs p Accepted refl;
+      accepted = ok;
+      header = simp ok (ap HeaderOrRefusal.Holds (header-written h cs p));
+      long = length-written h cs p;
       unpacked = output-accepted h cs p;
-      header = simp (written-accepted h cs p Accepted refl) (ap Holds (header-written h cs p));
-      channels = channels-written h cs p;
-      codes = ap (map codeOf) (channels-written h cs p);
+      channels = ap (map Decoded.Holds) same;
+      count = length-map (stripChannels (stripOf h cs)) codeOf ∙ ap length same ∙ p .count;
     }
+
+pub reads-back : ReadsBack
+reads-back f h xs room accepted =
+    rw (← all-held (decodedSource f xs) (parts f h xs room accepted .1))
+    (page-yields h (channelsOf (decodedSource f xs)) (is-page f h xs room accepted))
 
 -- ---- a page's channels as codes
 
@@ -109,7 +119,7 @@ codes-read k cs t =
     row-read storedElement (λ j c. codeOf c) (λ j ds. map codeOf ds) (λ j. refl) (λ j c ds. refl) (λ j c. code-channel c) 0 k cs t
 
 module _ (h : Header) (cs : List Channel) (p : IsPage h cs) where
-  pub codes-accepted : (room : ℕ) → 3 * pixels h + 3 ≤ room → checkSource stored h (map codeOf cs) room ≡ Accepted
+  pub codes-accepted : (room : ℕ) → stripLength h ≤ room → checkSource stored h (map codeOf cs) room ≡ Accepted
   unfolding checkSource checkPage
   codes-accepted room fits =
       let count : length (map codeOf cs) ≡ 3 * pixels h = length-map cs codeOf ∙ p .count in
@@ -124,7 +134,7 @@ module _ (h : Header) (cs : List Channel) (p : IsPage h cs) where
 pub converts-by-codes : ConvertsByCodes
 converts-by-codes f h xs room accepted =
     let p = is-page f h xs room accepted in
-    let cs = channelsOf (elements f xs) in
+    let cs = channelsOf (decodedSource f xs) in
     record {
       accepted = codes-accepted h cs p room (limits f h xs room accepted .fits);
       words = codes-converted h cs p;
@@ -135,7 +145,10 @@ unfolding checkStrip
 writes-again s accepted =
     let q = whole Accepted s accepted .1 in
     let p = page-read s q in
+    let same = same-words s q in
+    let written = rw (all-held (decodedBody s) (q .channels)) at (page-yields (headerFields s) (stripChannels s) p) in
     record {
-      accepted = λ room fits. codes-accepted (headerIn s) (channelsIn s) p room (omega (arith, q .head .long, fits));
-      words = codes-converted (headerIn s) (channelsIn s) p ∙ same-words s q;
+      yields = subst (λ (u : List ℕ). Yields u (headerFields s) (decodedOf (decodedBody s))) same written;
+      accepted = λ room fits. codes-accepted (headerFields s) (stripChannels s) p room (omega (arith, q .head .long, fits));
+      words = codes-converted (headerFields s) (stripChannels s) p ∙ same;
     }

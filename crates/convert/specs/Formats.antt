@@ -32,12 +32,12 @@ abbrev pub storedElement : (k code : ℕ) → Decoded
 storedElement k n = channelOfCode n
 
 -- "An RGBE element is a byte; 6 names the channel's byte."
-abbrev pub rgbeElement : (i m e : ℕ) → Placed
-rgbeElement i m e = record { index = i; decoded = channelOfValue (rgbeValue m e) }
+abbrev pub rgbeChannel : (i m e : ℕ) → Placed
+rgbeChannel i m e = record { index = i; decoded = channelOfValue (rgbeValue m e) }
 
 -- the pixel whose bytes begin at the index i
 abbrev pub rgbePixel : (i r g b e : ℕ) → List Placed
-rgbePixel i r g b e = rgbeElement i r e ∷ rgbeElement (i + 1) g e ∷ rgbeElement (i + 2) b e ∷ []
+rgbePixel i r g b e = rgbeChannel i r e ∷ rgbeChannel (i + 1) g e ∷ rgbeChannel (i + 2) b e ∷ []
 
 -- the word of channel k of a page that comes from byte m beside the exponent byte e
 abbrev pub rgbeWord : (k m e : ℕ) → ℕ
@@ -52,8 +52,8 @@ rgbePixels i (r ∷ g ∷ b ∷ []) = []
 rgbePixels i (r ∷ g ∷ b ∷ e ∷ bytes) = rgbePixel i r g b e ++ rgbePixels (i + 4) bytes
 
 -- the channels of a picture in order
-abbrev pub elements : Format → List ℕ → List Placed
-elements rgbe xs = rgbePixels 0 xs
-elements half xs = placed halfElement 0 0 xs
-elements single xs = placed singleElement 0 0 xs
-elements stored xs = placed storedElement 0 0 xs
+abbrev pub decodedSource : Format → List ℕ → List Placed
+decodedSource rgbe xs = rgbePixels 0 xs
+decodedSource half xs = placed halfElement 0 0 xs
+decodedSource single xs = placed singleElement 0 0 xs
+decodedSource stored xs = placed storedElement 0 0 xs

@@ -1,10 +1,10 @@
 // What every conversion does: the checks of the page, and the words around the channels.
 ghost use mathlib.Core.Path.{_≡_};
 ghost use mathlib.Core.Bool.{true};
-ghost use Prim.Native.Nat.{_+_, _*_, _≤_};
+ghost use Prim.Native.Nat.{_≤_};
 ghost use lib.ListN.{length, set};
 ghost use Rattle.number.specs.Channels.{codeOf};
-ghost use Rattle.word.specs.Words.{pixels, sizeFits, keyFits, sizeWord, keyWord, channelWord, endWord};
+ghost use Rattle.word.specs.Words.{pixels, sizeFits, keyFits, sizeWord, keyWord, channelWord, endWord, endIndex, stripLength};
 ghost use Rattle.word.specs.Placing.{channelIn};
 ghost use Rattle.convert.specs.Converting.{checkPage};
 use number::channel::Decoded;
@@ -35,14 +35,14 @@ pub fn check_page(header: Header, per: u8, count: usize, room: usize) -> Verdict
     if count != per as usize * pixels {
         return Verdict::Refused(Refusal::WrongLength, 0);
     }
-    if room < 3 * pixels + 3 {
+    if room < BODY_START + 3 * pixels + 1 {
         return Verdict::Refused(Refusal::SmallOutput, 0);
     }
     Verdict::Accepted
 }
 
 // The word of channel k.
-pub fn word_of(k: usize, decoded: Decoded) -> u32
+pub fn decoded_word(k: usize, decoded: Decoded) -> u32
     ensures { λ r. ⌜ r ≡ channelWord k (codeOf (channelIn decoded)) ⌝ }
 {
     match decoded {
@@ -53,8 +53,8 @@ pub fn word_of(k: usize, decoded: Decoded) -> u32
 
 // The words around the channels: size, key and end.
 pub fn store_frame(header: Header, output: &mut [u32])
-    requires { ⌜ (sizeFits (header .width) (header .height) ≡ true) × (keyFits (header .key) ≡ true) × (3 * pixels header + 3 ≤ length (now output)) ⌝ }
-    ensures { λ _. ⌜ now (output .exit) ≡ set (set (set (now (output .entry)) 0 (sizeWord (header .width) (header .height))) 1 (keyWord (header .key))) (2 + 3 * pixels header) (endWord (pixels header)) ⌝ }
+    requires { ⌜ (sizeFits (header .width) (header .height) ≡ true) × (keyFits (header .key) ≡ true) × (stripLength header ≤ length (now output)) ⌝ }
+    ensures { λ _. ⌜ now (output .exit) ≡ set (set (set (now (output .entry)) 0 (sizeWord (header .width) (header .height))) 1 (keyWord (header .key))) (endIndex header) (endWord (pixels header)) ⌝ }
 {
     let width = header.width;
     let height = header.height;

@@ -6,11 +6,11 @@ ghost use lib.Seq.{sets};
 ghost use Rattle.word.specs.Words.{bodyWords};
 ghost use Rattle.word.specs.Placing.{firstRefusal, channelsOf};
 ghost use Rattle.strip.specs.Output.{after};
-ghost use Rattle.convert.specs.Formats.{half, elements};
+ghost use Rattle.convert.specs.Formats.{half, decodedSource};
 ghost use Rattle.convert.specs.Converting.{checkSource, converted};
 use crate::frame::check_page;
 use crate::frame::store_frame;
-use crate::frame::word_of;
+use crate::frame::decoded_word;
 use number::channel::Decoded;
 use number::source::half_to_channel;
 use refusal::Verdict;
@@ -20,7 +20,7 @@ use word::header::Header;
 
 // The first element that is no number or too bright.
 fn check_half(source: &[u16]) -> Verdict
-    ensures { λ r. ⌜ r ≡ firstRefusal (elements half (now (source .entry))) ⌝ }
+    ensures { λ r. ⌜ r ≡ firstRefusal (decodedSource half (now (source .entry))) ⌝ }
 {
     let mut k: usize = 0;
     while k < source.len() {
@@ -36,11 +36,11 @@ fn check_half(source: &[u16]) -> Verdict
 // The channel words, behind the header words.
 fn store_half(source: &[u16], output: &mut [u32])
     requires { ⌜ length (now source) + 2 ≤ length (now output) ⌝ }
-    ensures { λ _. ⌜ now (output .exit) ≡ sets (now (output .entry)) 2 (bodyWords 0 (channelsOf (elements half (now (source .entry))))) ⌝ }
+    ensures { λ _. ⌜ now (output .exit) ≡ sets (now (output .entry)) 2 (bodyWords 0 (channelsOf (decodedSource half (now (source .entry))))) ⌝ }
 {
     let mut k: usize = 0;
     while k < source.len() {
-        output[BODY_START + k] = word_of(k, half_to_channel(source[k]));
+        output[BODY_START + k] = decoded_word(k, half_to_channel(source[k]));
         k += 1;
     }
 }
@@ -54,9 +54,9 @@ pub fn convert_half(source: &[u16], header: Header, output: &mut [u32]) -> Verdi
     let Verdict::Accepted = page else {
         return page;
     };
-    let elements = check_half(source);
-    let Verdict::Accepted = elements else {
-        return elements;
+    let channels = check_half(source);
+    let Verdict::Accepted = channels else {
+        return channels;
     };
     store_half(source, output);
     store_frame(header, output);

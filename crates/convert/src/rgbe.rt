@@ -6,11 +6,11 @@ ghost use lib.Seq.{sets};
 ghost use Rattle.word.specs.Words.{bodyWords};
 ghost use Rattle.word.specs.Placing.{firstRefusal, channelsOf};
 ghost use Rattle.strip.specs.Output.{after};
-ghost use Rattle.convert.specs.Formats.{rgbe, rgbePixel, rgbeWord, elements};
+ghost use Rattle.convert.specs.Formats.{rgbe, rgbePixel, rgbeWord, decodedSource};
 ghost use Rattle.convert.specs.Converting.{checkSource, converted};
 use crate::frame::check_page;
 use crate::frame::store_frame;
-use crate::frame::word_of;
+use crate::frame::decoded_word;
 use number::channel::Decoded;
 use number::source::rgbe_to_channel;
 use refusal::Verdict;
@@ -36,7 +36,7 @@ fn check_pixel(i: usize, red: u8, green: u8, blue: u8, exponent: u8) -> Verdict
 
 // The first channel that is too bright.
 fn check_rgbe(source: &[u8]) -> Verdict
-    ensures { λ r. ⌜ r ≡ firstRefusal (elements rgbe (now (source .entry))) ⌝ }
+    ensures { λ r. ⌜ r ≡ firstRefusal (decodedSource rgbe (now (source .entry))) ⌝ }
 {
     let pixels = source.len() / 4;
     let mut p: usize = 0;
@@ -62,15 +62,15 @@ fn store_pixel(k: usize, red: u8, green: u8, blue: u8, exponent: u8, output: &mu
     requires { ⌜ 2 + k + 2 < length (now output) ⌝ }
     ensures { λ _. ⌜ now (output .exit) ≡ set (set (set (now (output .entry)) (2 + k) (rgbeWord k red exponent)) (2 + k + 1) (rgbeWord (k + 1) green exponent)) (2 + k + 2) (rgbeWord (k + 2) blue exponent) ⌝ }
 {
-    output[BODY_START + k] = word_of(k, rgbe_to_channel(red, exponent));
-    output[BODY_START + k + 1] = word_of(k + 1, rgbe_to_channel(green, exponent));
-    output[BODY_START + k + 2] = word_of(k + 2, rgbe_to_channel(blue, exponent));
+    output[BODY_START + k] = decoded_word(k, rgbe_to_channel(red, exponent));
+    output[BODY_START + k + 1] = decoded_word(k + 1, rgbe_to_channel(green, exponent));
+    output[BODY_START + k + 2] = decoded_word(k + 2, rgbe_to_channel(blue, exponent));
 }
 
 // The channel words, behind the header words.
 fn store_rgbe(source: &[u8], output: &mut [u32])
     requires { ⌜ 2 + 3 * (length (now source) / 4) ≤ length (now output) ⌝ }
-    ensures { λ _. ⌜ now (output .exit) ≡ sets (now (output .entry)) 2 (bodyWords 0 (channelsOf (elements rgbe (now (source .entry))))) ⌝ }
+    ensures { λ _. ⌜ now (output .exit) ≡ sets (now (output .entry)) 2 (bodyWords 0 (channelsOf (decodedSource rgbe (now (source .entry))))) ⌝ }
 {
     let pixels = source.len() / 4;
     let mut p: usize = 0;
@@ -97,9 +97,9 @@ pub fn convert_rgbe(source: &[u8], header: Header, output: &mut [u32]) -> Verdic
     let Verdict::Accepted = page else {
         return page;
     };
-    let elements = check_rgbe(source);
-    let Verdict::Accepted = elements else {
-        return elements;
+    let channels = check_rgbe(source);
+    let Verdict::Accepted = channels else {
+        return channels;
     };
     store_rgbe(source, output);
     store_frame(header, output);

@@ -6,11 +6,11 @@ ghost use lib.Seq.{sets};
 ghost use Rattle.word.specs.Words.{bodyWords};
 ghost use Rattle.word.specs.Placing.{firstRefusal, channelsOf};
 ghost use Rattle.strip.specs.Output.{after};
-ghost use Rattle.convert.specs.Formats.{single, elements};
+ghost use Rattle.convert.specs.Formats.{single, decodedSource};
 ghost use Rattle.convert.specs.Converting.{checkSource, converted};
 use crate::frame::check_page;
 use crate::frame::store_frame;
-use crate::frame::word_of;
+use crate::frame::decoded_word;
 use number::channel::Decoded;
 use number::source::single_to_channel;
 use refusal::Verdict;
@@ -20,7 +20,7 @@ use word::header::Header;
 
 // The first element that is no number or too bright.
 fn check_single(source: &[u32]) -> Verdict
-    ensures { λ r. ⌜ r ≡ firstRefusal (elements single (now (source .entry))) ⌝ }
+    ensures { λ r. ⌜ r ≡ firstRefusal (decodedSource single (now (source .entry))) ⌝ }
 {
     let mut k: usize = 0;
     while k < source.len() {
@@ -36,11 +36,11 @@ fn check_single(source: &[u32]) -> Verdict
 // The channel words, behind the header words.
 fn store_single(source: &[u32], output: &mut [u32])
     requires { ⌜ length (now source) + 2 ≤ length (now output) ⌝ }
-    ensures { λ _. ⌜ now (output .exit) ≡ sets (now (output .entry)) 2 (bodyWords 0 (channelsOf (elements single (now (source .entry))))) ⌝ }
+    ensures { λ _. ⌜ now (output .exit) ≡ sets (now (output .entry)) 2 (bodyWords 0 (channelsOf (decodedSource single (now (source .entry))))) ⌝ }
 {
     let mut k: usize = 0;
     while k < source.len() {
-        output[BODY_START + k] = word_of(k, single_to_channel(source[k]));
+        output[BODY_START + k] = decoded_word(k, single_to_channel(source[k]));
         k += 1;
     }
 }
@@ -54,9 +54,9 @@ pub fn convert_single(source: &[u32], header: Header, output: &mut [u32]) -> Ver
     let Verdict::Accepted = page else {
         return page;
     };
-    let elements = check_single(source);
-    let Verdict::Accepted = elements else {
-        return elements;
+    let channels = check_single(source);
+    let Verdict::Accepted = channels else {
+        return channels;
     };
     store_single(source, output);
     store_frame(header, output);

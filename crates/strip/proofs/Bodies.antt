@@ -5,11 +5,12 @@ use mathlib.Core.List.{List, [], _∷_, map}
 use Rattle.number.specs.Channels.{codeOf}
 use Rattle.refusal.specs.declared.Verdict.the-variants.{Accepted}
 use Rattle.refusal.proofs.Laws.{and-passed}
+use Rattle.word.specs.Words.{bodyStart}
 use Rattle.word.specs.Placing.{placed, firstRefusal, channelsOf}
 use Rattle.word.specs.Fields.{low16, decodeWord}
 use Rattle.word.proofs.Decoding.{holds, is-word}
-use Rattle.strip.specs.Checks.{bodyStart, bodyIn, body}
-use Rattle.strip.specs.Reading.{codesIn}
+use Rattle.strip.specs.Checks.{headerFields, bodyPart, decodedBody}
+use Rattle.strip.specs.Reading.{stripCodes}
 
 -- the codes of accepted words are their lower halves
 codes-low : (start k : ℕ) (ws : List ℕ) → firstRefusal (placed decodeWord start k ws) ≡ Accepted
@@ -19,5 +20,5 @@ codes-low start k (w ∷ ws) e =
     let q = and-passed _ _ e in
     rw (is-word k w (holds _ _ (q .0)) .coded .code, codes-low start (suc k) ws (q .1))
 
-pub codes-in : (s : List ℕ) → firstRefusal (body s) ≡ Accepted → codesIn s ≡ map low16 (bodyIn s)
-codes-in s e = codes-low (bodyStart s) 0 (bodyIn s) e
+pub codes-in : (s : List ℕ) → firstRefusal (decodedBody s) ≡ Accepted → stripCodes s ≡ map low16 (bodyPart s)
+codes-in s e = codes-low (bodyStart (headerFields s)) 0 (bodyPart s) e

@@ -9,15 +9,14 @@ use lib.ListN.{length}
 use Rattle.refusal.specs.declared.Verdict.{Verdict}
 use Rattle.refusal.specs.declared.Verdict.the-variants.{Accepted}
 use Rattle.refusal.proofs.Laws.{require-passed, and-passed}
-use Rattle.word.specs.Words.{pixels, sizeFits, keyFits, sizeWord, keyWord, endWord}
+use Rattle.word.specs.Words.{endIndex, pixels, sizeFits, keyFits, sizeWord, keyWord, endWord}
 use Rattle.word.specs.Placing.{firstRefusal}
 use Rattle.strip.specs.Checks.{
   wordAt,
-  headerIn,
+  headerFields,
   channelCount,
-  endIndex,
   declaredLength,
-  body,
+  decodedBody,
   checkHead,
   checkBody,
   checkWith,
@@ -29,10 +28,10 @@ use Rattle.word.specs.Fields.{checkSizeWord, checkKeyWord}
 -- ---- a strip's header and length
 
 pub record Head (s : List ℕ) : Type 0 where
-  pub size : wordAt s 0 ≡ sizeWord (headerIn s .width) (headerIn s .height)
-  pub size-fits : sizeFits (headerIn s .width) (headerIn s .height) ≡ true
-  pub key : wordAt s 1 ≡ keyWord (headerIn s .key)
-  pub key-fits : keyFits (headerIn s .key) ≡ true
+  pub size : wordAt s 0 ≡ sizeWord (headerFields s .width) (headerFields s .height)
+  pub size-fits : sizeFits (headerFields s .width) (headerFields s .height) ≡ true
+  pub key : wordAt s 1 ≡ keyWord (headerFields s .key)
+  pub key-fits : keyFits (headerFields s .key) ≡ true
   pub long : length s ≡ declaredLength s
 
 pub headed : (s : List ℕ) → checkHead s ≡ Accepted → Head s
@@ -54,8 +53,8 @@ headed s e =
 
 pub record Whole (s : List ℕ) : Type 0 where
   pub head : Head s
-  pub channels : firstRefusal (body s) ≡ Accepted
-  pub end : wordAt s (endIndex s) ≡ endWord (pixels (headerIn s))
+  pub channels : firstRefusal (decodedBody s) ≡ Accepted
+  pub end : wordAt s (endIndex (headerFields s)) ≡ endWord (pixels (headerFields s))
 
 -- whatever a call adds
 pub whole : (added : Verdict) (s : List ℕ) → checkWith added s ≡ Accepted → (added ≡ Accepted) × Whole s
@@ -82,11 +81,11 @@ output-limits s room e =
 
 pub record Inside (s : List ℕ) (y : ℕ) : Type 0 where
   pub strip : Whole s
-  pub inside : headerIn s .width * y + headerIn s .width ≤ pixels (headerIn s)
+  pub inside : headerFields s .width * y + headerFields s .width ≤ pixels (headerFields s)
 
 pub row-limits : (s : List ℕ) (y : ℕ) → checkRow s y ≡ Accepted → Inside s y
 unfolding checkRow
 row-limits s y e =
     let q = whole _ s e in
-    let below = ltb-true y (headerIn s .height) (require-passed _ _ _ _ (q .0) .0) in
-    record { strip = q .1; inside = rw mul-suc at (mul-le-mul-left (headerIn s .width) below) }
+    let below = ltb-true y (headerFields s .height) (require-passed _ _ _ _ (q .0) .0) in
+    record { strip = q .1; inside = rw mul-suc at (mul-le-mul-left (headerFields s .width) below) }

@@ -17,23 +17,22 @@ use Rattle.refusal.specs.declared.Verdict.{Verdict}
 use Rattle.refusal.specs.declared.Verdict.the-variants.{Accepted}
 use Rattle.refusal.proofs.Laws.{and-passed, and-met, require-met}
 use Rattle.word.specs.declared.header.Header.{Header}
-use Rattle.word.specs.Words.{pixels, sizeFits, keyFits, sizeWord, keyWord, channelWord, bodyWords, endWord, stripOf}
+use Rattle.word.specs.Words.{pixels, sizeFits, keyFits, sizeWord, keyWord, channelWord, bodyWords, endWord, endIndex, stripLength, stripOf}
 use Rattle.word.specs.Placing.{Placed, placed, firstRefusal, channelIn, channelsOf}
 use Rattle.strip.specs.Checks.{
   wordAt,
-  headerIn,
+  headerFields,
   channelCount,
-  endIndex,
   declaredLength,
-  bodyIn,
-  body,
+  bodyPart,
+  decodedBody,
   checkHead,
   checkBody,
   checkWith,
   checkOutput,
 }
 use Rattle.word.specs.Fields.{widthIn, heightIn, low16, decodeWord, checkSizeWord, checkKeyWord}
-use Rattle.strip.specs.Reading.{channelsIn}
+use Rattle.strip.specs.Reading.{stripChannels}
 use Rattle.word.proofs.Walks.{length-placed, length-words}
 use Rattle.word.proofs.Limits.{size-limits, key-limits}
 use Rattle.strip.proofs.Limits.{Whole}
@@ -118,19 +117,19 @@ module _ (h : Header) (cs : List Channel) (ok : IsPage h cs) where
   key-read : low16 (keyWord (h .key)) ≡ h .key
   key-read = let q = key-limits _ (ok .key) in omega (arith, q .most)
 
-  pub header-written : headerIn (stripOf h cs) ≡ h
+  pub header-written : headerFields (stripOf h cs) ≡ h
   header-written = rw (width-read, height-read, key-read)
 
   words-long : length (bodyWords 0 cs) ≡ 3 * pixels h
   words-long = length-words 0 cs ∙ ok .count
 
-  length-written : length (stripOf h cs) ≡ 3 * pixels h + 3
+  pub length-written : length (stripOf h cs) ≡ stripLength h
   length-written = rw (length-append (bodyWords 0 cs) (endWord (pixels h) ∷ []), words-long) (omega arith)
 
-  body-written : bodyIn (stripOf h cs) ≡ bodyWords 0 cs
+  body-written : bodyPart (stripOf h cs) ≡ bodyWords 0 cs
   body-written = rw (width-read, height-read) (take-at (bodyWords 0 cs) (endWord (pixels h) ∷ []) (3 * pixels h) words-long)
 
-  end-written : wordAt (stripOf h cs) (endIndex (stripOf h cs)) ≡ endWord (pixels (headerIn (stripOf h cs)))
+  end-written : wordAt (stripOf h cs) (endIndex (headerFields (stripOf h cs))) ≡ endWord (pixels (headerFields (stripOf h cs)))
   end-written =
       let e : 2 + 3 * pixels h ≡ suc (suc (3 * pixels h)) = omega arith in
       rw (width-read, height-read, e) (getD-at (bodyWords 0 cs) (endWord (pixels h)) [] 0 (3 * pixels h) words-long)
@@ -140,8 +139,8 @@ module _ (h : Header) (cs : List Channel) (ok : IsPage h cs) where
   head-accepted =
       let s = stripOf h cs in
       let n = length-written in
-      let size : wordAt s 0 ≡ sizeWord (headerIn s .width) (headerIn s .height) = rw (width-read, height-read) in
-      let key : wordAt s 1 ≡ keyWord (headerIn s .key) = rw key-read in
+      let size : wordAt s 0 ≡ sizeWord (headerFields s .width) (headerFields s .height) = rw (width-read, height-read) in
+      let key : wordAt s 1 ≡ keyWord (headerFields s .key) = rw key-read in
       let long : length s ≡ declaredLength s = rw (width-read, height-read) (omega arith) in
       require-met _ _ (le-leb 2 (length s) (omega arith))
       (and-met (require-met _ _ (eq-eqb _ _ size) (require-met _ _ (rw (width-read, height-read) (ok .size)) refl))
@@ -167,7 +166,7 @@ module _ (h : Header) (cs : List Channel) (ok : IsPage h cs) where
       let enough : channelCount (stripOf h cs) ≤ room = rw (width-read, height-read) fits in
       written-accepted _ (require-met _ _ (le-leb _ _ enough) refl)
 
-  pub channels-written : channelsIn (stripOf h cs) ≡ cs
+  pub channels-written : stripChannels (stripOf h cs) ≡ cs
   channels-written = rw body-written (read .channels)
 
 -- ---- a strip that was accepted
@@ -180,7 +179,7 @@ split-last n xs e =
     sym (split-at xs n 0 inside ∙ rw (drop-of-length-le xs none))
 
 -- it is the strip of its header and channels
-pub same-words : (s : List ℕ) → Whole s → stripOf (headerIn s) (channelsIn s) ≡ s
+pub same-words : (s : List ℕ) → Whole s → stripOf (headerFields s) (stripChannels s) ≡ s
 same-words [] q = absurd (omega (arith, q .head .long))
 same-words (a ∷ []) q = absurd (omega (arith, q .head .long))
 same-words (a ∷ b ∷ xs) q =
@@ -195,16 +194,16 @@ same-words (a ∷ b ∷ xs) q =
       split-last n xs (omega (arith, q .head .long)),
     )
 
-pub page-read : (s : List ℕ) → Whole s → IsPage (headerIn s) (channelsIn s)
+pub page-read : (s : List ℕ) → Whole s → IsPage (headerFields s) (stripChannels s)
 page-read s q =
     let n = q .head .long in
     let fits : channelCount s ≤ length (drop 2 s) = rw length-drop (omega arith) in
-    let count : length (channelsIn s) ≡ channelCount s =
-    length-map (body s) (λ (p : Placed). channelIn (p .decoded)) ∙ length-placed _ 2 0 (bodyIn s)
+    let count : length (stripChannels s) ≡ channelCount s =
+    length-map (decodedBody s) (λ (p : Placed). channelIn (p .decoded)) ∙ length-placed _ 2 0 (bodyPart s)
     ∙ length-take-le (channelCount s) (drop 2 s) fits in
     record {
       size = q .head .size-fits;
       key = q .head .key-fits;
       count = count;
-      valid = channels-valid decodeWord word-valid 2 0 (bodyIn s) (q .channels);
+      valid = channels-valid decodeWord word-valid 2 0 (bodyPart s) (q .channels);
     }

@@ -11,7 +11,7 @@ use Rattle.refusal.specs.declared.Verdict.the-variants.{Accepted}
 use Rattle.refusal.specs.Verdicts.{require, andThen}
 use Rattle.word.specs.declared.header.Header.{Header}
 use Rattle.word.specs.Fields.{widthIn, heightIn, low16, decodeWord, checkSizeWord, checkKeyWord}
-use Rattle.word.specs.Words.{pixels, endWord}
+use Rattle.word.specs.Words.{pixels, endWord, bodyStart, endIndex, stripLength}
 use Rattle.word.specs.Placing.{Placed, placed, firstRefusal}
 
 -- ---- where things stand in any row of words; a word that is not there counts as 0
@@ -19,33 +19,25 @@ use Rattle.word.specs.Placing.{Placed, placed, firstRefusal}
 abbrev pub wordAt : List ℕ → (i : ℕ) → ℕ
 wordAt s i = getD s i 0
 
-abbrev pub headerIn : List ℕ → Header
-headerIn s = record { width = widthIn (wordAt s 0); height = heightIn (wordAt s 0); key = low16 (wordAt s 1) }
+abbrev pub headerFields : List ℕ → Header
+headerFields s = record { width = widthIn (wordAt s 0); height = heightIn (wordAt s 0); key = low16 (wordAt s 1) }
 
--- the index of the first channel word
-abbrev pub bodyStart : List ℕ → ℕ
-bodyStart s = 2
+-- the length that its size word declares
+abbrev pub declaredLength : List ℕ → ℕ
+declaredLength s = stripLength (headerFields s)
 
 -- three channels a pixel
 abbrev pub channelCount : List ℕ → ℕ
-channelCount s = 3 * pixels (headerIn s)
-
--- the index of the end word
-abbrev pub endIndex : List ℕ → ℕ
-endIndex s = bodyStart s + channelCount s
-
--- "Length: 3 × pixels + 3."
-abbrev pub declaredLength : List ℕ → ℕ
-declaredLength s = endIndex s + 1
+channelCount s = 3 * pixels (headerFields s)
 
 -- ---- the checks
 
--- the channel words, and what stands in them
-abbrev pub bodyIn : List ℕ → List ℕ
-bodyIn s = take (channelCount s) (drop (bodyStart s) s)
+-- the channel words, and what they decode to
+abbrev pub bodyPart : List ℕ → List ℕ
+bodyPart s = take (channelCount s) (drop (bodyStart (headerFields s)) s)
 
-abbrev pub body : List ℕ → List Placed
-body s = placed decodeWord (bodyStart s) 0 (bodyIn s)
+abbrev pub decodedBody : List ℕ → List Placed
+decodedBody s = placed decodeWord (bodyStart (headerFields s)) 0 (bodyPart s)
 
 unfoldable pub checkHead : List ℕ → Verdict
 checkHead s =
@@ -57,8 +49,8 @@ checkHead s =
 
 unfoldable pub checkBody : List ℕ → Verdict
 checkBody s =
-    andThen (firstRefusal (body s))
-    (require (eqb (wordAt s (endIndex s)) (endWord (pixels (headerIn s)))) UnexpectedWord (endIndex s)
+    andThen (firstRefusal (decodedBody s))
+    (require (eqb (wordAt s (endIndex (headerFields s))) (endWord (pixels (headerFields s)))) UnexpectedWord (endIndex (headerFields s))
     Accepted)
 
 -- a strip's checks, with what a call adds between length and words
@@ -74,4 +66,4 @@ checkOutput s room = checkWith (require (leb (channelCount s) room) SmallOutput 
 
 -- "row number, from 0, not below the height"
 unfoldable pub checkRow : List ℕ → (y : ℕ) → Verdict
-checkRow s y = checkWith (require (ltb y (headerIn s .height)) NoSuchRow 0 Accepted) s
+checkRow s y = checkWith (require (ltb y (headerFields s .height)) NoSuchRow 0 Accepted) s

@@ -7,25 +7,26 @@ use Rattle.number.specs.Channels.{codeOf}
 use Rattle.refusal.specs.declared.Verdict.{Verdict}
 use Rattle.refusal.specs.declared.Verdict.the-variants.{Accepted, Refused}
 use Rattle.word.specs.declared.header.Header.{Header}
-use Rattle.strip.specs.declared.read.Headed.{Headed}
-use Rattle.strip.specs.declared.read.Headed.the-variants.{Holds, Refuses}
+use Rattle.strip.specs.declared.read.HeaderOrRefusal.{HeaderOrRefusal}
+use Rattle.strip.specs.declared.read.HeaderOrRefusal.the-variants.{Holds, Refuses}
+use Rattle.word.specs.Words.{bodyStart}
 use Rattle.word.specs.Placing.{channelsOf}
-use Rattle.strip.specs.Checks.{headerIn, bodyStart, body, checkStrip}
+use Rattle.strip.specs.Checks.{headerFields, decodedBody, checkStrip}
 
-abbrev pub headedBy : Verdict → Header → Headed
-headedBy Accepted h = Holds h
-headedBy (Refused r i) h = Refuses r i
+abbrev pub headerUnder : Verdict → Header → HeaderOrRefusal
+headerUnder Accepted h = Holds h
+headerUnder (Refused r i) h = Refuses r i
 
 -- its header; of a refused strip its refusal
-abbrev pub headerOf : List ℕ → Headed
-headerOf s = headedBy (checkStrip s) (headerIn s)
+abbrev pub readHeader : List ℕ → HeaderOrRefusal
+readHeader s = headerUnder (checkStrip s) (headerFields s)
 
-abbrev pub channelsIn : List ℕ → List Channel
-channelsIn s = channelsOf (body s)
+abbrev pub stripChannels : List ℕ → List Channel
+stripChannels s = channelsOf (decodedBody s)
 
 -- unpacked: the channels as 16-bit numbers
-abbrev pub codesIn : List ℕ → List ℕ
-codesIn s = map codeOf (channelsIn s)
+abbrev pub stripCodes : List ℕ → List ℕ
+stripCodes s = map codeOf (stripChannels s)
 
 -- a part of a lent row of words: `count` of them from the index `start` on
 pub record Part : Type 0 where
@@ -42,5 +43,5 @@ pointerTo p (block, offset) = (block, p .start * 4 + offset)
 
 -- "red word of its first pixel to blue of its last. A refused row is the empty part"
 abbrev pub rowPart : Verdict → List ℕ → (y : ℕ) → Part
-rowPart Accepted s y = record { start = bodyStart s + 3 * (headerIn s .width * y); count = 3 * headerIn s .width }
+rowPart Accepted s y = record { start = bodyStart (headerFields s) + 3 * (headerFields s .width * y); count = 3 * headerFields s .width }
 rowPart (Refused r i) s y = record { start = 0; count = 0 }

@@ -5,7 +5,7 @@ ghost use Prim.Native.Nat.{_≤_};
 ghost use lib.ListN.{length};
 ghost use Rattle.word.specs.Fields.{low16};
 ghost use Rattle.strip.specs.Checks.{checkOutput};
-ghost use Rattle.strip.specs.Reading.{headerOf, codesIn};
+ghost use Rattle.strip.specs.Reading.{readHeader, stripCodes};
 ghost use Rattle.strip.specs.Output.{onto, after};
 use crate::check::check;
 use crate::check::check_output;
@@ -16,23 +16,23 @@ use word::header::Header;
 use word::header::pixel_count;
 
 // The header of an accepted strip, or its refusal with the index where it was found.
-pub enum Headed {
+pub enum HeaderOrRefusal {
     Holds(Header),
     Refuses(Refusal, usize),
 }
 
 // The header of a strip, or its refusal.
-pub fn header(strip: &[u32]) -> Headed
-    ensures { λ r. ⌜ r ≡ headerOf (now (strip .entry)) ⌝ }
+pub fn header(strip: &[u32]) -> HeaderOrRefusal
+    ensures { λ r. ⌜ r ≡ readHeader (now (strip .entry)) ⌝ }
 {
     let verdict = check(strip);
     match verdict {
-        Verdict::Accepted => Headed::Holds(Header {
+        Verdict::Accepted => HeaderOrRefusal::Holds(Header {
             width: (strip[0] / 16384 % 16384) as u64,
             height: (strip[0] % 16384) as u64,
             key: (strip[1] % 65536) as u64,
         }),
-        Verdict::Refused(refusal, i) => Headed::Refuses(refusal, i),
+        Verdict::Refused(refusal, i) => HeaderOrRefusal::Refuses(refusal, i),
     }
 }
 
@@ -51,7 +51,7 @@ fn store_codes(words: &[u32], output: &mut [u16])
 // The channels of an accepted strip as 16-bit numbers, into the front of the output; a refusal leaves the output as it was.
 pub fn unpack(strip: &[u32], output: &mut [u16]) -> Verdict
     ensures verdict { λ r. ⌜ r ≡ checkOutput (now (strip .entry)) (length (now (output .entry))) ⌝ }
-    ensures content { λ r. ⌜ now (output .exit) ≡ after r (codesIn (now (strip .entry))) (now (output .entry)) ⌝ }
+    ensures content { λ r. ⌜ now (output .exit) ≡ after r (stripCodes (now (strip .entry))) (now (output .entry)) ⌝ }
 {
     let verdict = check_output(strip, output.len());
     let Verdict::Accepted = verdict else {

@@ -1,6 +1,7 @@
 -- What an accepted channel word is. Assumes nothing.
 use Prim.Native.Nat.{ℕ}
 use mathlib.Core.Path.{_≡_, refl}
+use mathlib.Core.List.{List, [], _∷_, map}
 use mathlib.Core.Bool.{Bool, true, false, cond}
 use lib.Dec.{eqb}
 use borrow.Author.Tests.{eqb-true}
@@ -11,14 +12,22 @@ use Rattle.number.specs.Channels.{channelOfCode}
 use Rattle.number.proofs.Laws.{Coded, channel-code}
 use Rattle.refusal.specs.declared.Refusal.the-variants.{UnexpectedWord}
 use Rattle.refusal.specs.declared.Verdict.the-variants.{Accepted}
+use Rattle.refusal.proofs.Laws.{and-passed}
 use Rattle.word.specs.Words.{channelWord}
 use Rattle.word.specs.Fields.{low16, decodeWord}
-use Rattle.word.specs.Placing.{verdictAt, channelIn}
+use Rattle.word.specs.Placing.{Placed, verdictAt, firstRefusal, decodedOf, channelIn, channelsOf}
 
 -- what is accepted holds its channel
 pub holds : (i : ℕ) (d : Decoded) → verdictAt i d ≡ Accepted → d ≡ Holds (channelIn d)
 holds i (Holds c) e = refl
 holds i (Refuses r) e = cc
+
+-- every one of an accepted row does
+pub all-held : (ps : List Placed) → firstRefusal ps ≡ Accepted → map Holds (channelsOf ps) ≡ decodedOf ps
+all-held [] e = refl
+all-held (p ∷ ps) e =
+    let q = and-passed _ _ e in
+    rw (← holds _ (p .decoded) (q .0), all-held ps (q .1))
 
 kind-read : (b : Bool) (d : Decoded) (c : Channel) → cond b d (Refuses UnexpectedWord) ≡ Holds c → (b ≡ true) × (d ≡ Holds c)
 kind-read true d c e = (refl, e)

@@ -9,13 +9,13 @@ use Rattle.refusal.specs.declared.Verdict.{Verdict}
 use Rattle.refusal.specs.declared.Verdict.the-variants.{Accepted, Refused}
 use Rattle.refusal.specs.Verdicts.{andThen}
 
--- what stands for a channel, and the index of the element or word that names it
+-- what an element or word decodes to, and the index that its refusal names
 pub record Placed : Type 0 where
   pub index : ℕ
   pub decoded : Decoded
 
--- Each element of a row stands for one channel: the first for channel k, and f says what an element stands for as channel k. Channel 0
--- stands at the index `start`.
+-- A row with one element a channel, the first of which is channel k: f says what an element decodes to as channel j. Channel 0 has the
+-- index `start`.
 abbrev pub placed : (f : ℕ → ℕ → Decoded) (start k : ℕ) → List ℕ → List Placed
 placed f start k [] = []
 placed f start k (x ∷ xs) = record { index = start + k; decoded = f k x } ∷ placed f start (suc k) xs
@@ -28,6 +28,9 @@ verdictAt i (Refuses r) = Refused r i
 abbrev pub firstRefusal : List Placed → Verdict
 firstRefusal [] = Accepted
 firstRefusal (p ∷ ps) = andThen (verdictAt (p .index) (p .decoded)) (firstRefusal ps)
+
+abbrev pub decodedOf : List Placed → List Decoded
+decodedOf ps = map (λ (p : Placed). p .decoded) ps
 
 -- the channels of a row in which none is refused
 abbrev pub channelIn : Decoded → Channel

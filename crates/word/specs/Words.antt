@@ -23,11 +23,11 @@ keyFits k = leb 1 k && leb k 1000
 
 -- ---- the words
 
--- the word of a kind that has v in its lower bits
+-- the word of a kind whose lower 28 bits hold v
 abbrev pub wordOf : (kind v : ℕ) → ℕ
 wordOf kind v = kind * 2 ^ 28 + v
 
--- "Kind 1, size, first: width in bits 27..14, height in 13..0."
+-- "Kind 1, size, first: width in bits 27..14, height in 13..0.", for sides of 14 bits
 abbrev pub sizeWord : (width height : ℕ) → ℕ
 sizeWord w h = wordOf 1 (w * 2 ^ 14 + h)
 
@@ -54,6 +54,20 @@ bodyWords k (c ∷ cs) = channelWord k (codeOf c) ∷ bodyWords (suc k) cs
 -- "Kind 7, end, last: the pixel count in 27..0."
 abbrev pub endWord : (pixels : ℕ) → ℕ
 endWord n = wordOf 7 n
+
+-- ---- the strip
+
+-- the index of the first channel word
+abbrev pub bodyStart : Header → ℕ
+bodyStart h = 2
+
+-- the index of the end word, behind three channel words a pixel
+abbrev pub endIndex : Header → ℕ
+endIndex h = bodyStart h + 3 * pixels h
+
+-- "Length: 3 × pixels + 3."
+abbrev pub stripLength : Header → ℕ
+stripLength h = endIndex h + 1
 
 -- the strip of a page
 abbrev pub stripOf : Header → List Channel → List ℕ

@@ -59,4 +59,5 @@ check-page-spec =
     (λ c κs. search needs) returns (λ c κs. search needs) returns-2
     (λ c. omega (arith, size-limits _ _ (size (c .before .before)) .count)) mul-if3 returns-3
     (λ c. omega (arith, size-limits _ _ (size (c .before .before .before)) .count))
+    (λ c. omega (arith, size-limits _ _ (size (c .before .before .before)) .count))
     (λ c. omega (arith, size-limits _ _ (size (c .before .before .before)) .count)) returns-4 returns-5)

@@ -7,12 +7,12 @@ use native.Mathlib.Nat.{zero-add}
 use lib.ListN.{length}
 use Rattle.word.specs.Placing.{firstRefusal}
 use Rattle.word.proofs.Walks.{checking, checking-all, checking-next, checking-refused, checking-done}
-use Rattle.convert.specs.Formats.{half, halfElement, elements}
+use Rattle.convert.specs.Formats.{half, halfElement, decodedSource}
 use Rattle.convert.proofs.half.check_half.Statement.{statement}
 use Rattle.convert.proofs.half.check_half.Tie as tie
 
 abbrev Inv-loop : tie.InvT-loop
-Inv-loop source k₀ k = checking halfElement 0 source k ≡ firstRefusal (elements half source)
+Inv-loop source k₀ k = checking halfElement 0 source k ≡ firstRefusal (decodedSource half source)
 
 abbrev μ-loop : tie.MeasureT-loop
 μ-loop source k₀ k = length source - k

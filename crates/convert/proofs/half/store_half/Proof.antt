@@ -7,14 +7,14 @@ use lib.Seq.{sets}
 use Rattle.word.specs.Words.{bodyWords}
 use Rattle.word.specs.Placing.{channelsOf}
 use Rattle.word.proofs.Walks.{writing, writing-all, writing-next, writing-done}
-use Rattle.convert.specs.Formats.{half, halfElement, elements}
+use Rattle.convert.specs.Formats.{half, halfElement, decodedSource}
 use Rattle.convert.proofs.half.store_half.Statement.{statement}
 use Rattle.convert.proofs.half.store_half.Tie as tie
 
 abbrev Inv-loop : tie.InvT-loop
 Inv-loop source output₀ k₀ output k =
     (length output ≡ length output₀)
-    × (writing halfElement source k output ≡ sets output₀ 2 (bodyWords 0 (channelsOf (elements half source))))
+    × (writing halfElement source k output ≡ sets output₀ 2 (bodyWords 0 (channelsOf (decodedSource half source))))
 
 abbrev μ-loop : tie.MeasureT-loop
 μ-loop source output₀ k₀ output k = length source - k
@@ -23,7 +23,7 @@ loop-again : tie.Need-loop-again Inv-loop μ-loop
 loop-again c =
     let t = c .before .before .before in
     let l = t .before .loop in
-    writing-next _ _ _ (l .output) (l .inv) (t .loop-test .taken) (c .before .half-to-channel .ensures) (c .word-of .ensures)
+    writing-next _ _ _ (l .output) (l .inv) (t .loop-test .taken) (c .before .half-to-channel .ensures) (c .decoded-word .ensures)
 
 returns : tie.Need-returns Inv-loop μ-loop
 returns c = writing-done _ _ _ _ (c .before .loop .inv) (c .loop-test .left)

@@ -5,13 +5,13 @@ use Prim.Native.Nat.{_-_}
 use mathlib.Core.Path.{_≡_}
 use native.Mathlib.Omega.{arith}
 use Rattle.word.specs.Placing.{firstRefusal}
-use Rattle.convert.specs.Formats.{rgbe, elements}
+use Rattle.convert.specs.Formats.{rgbe, decodedSource}
 use Rattle.convert.proofs.Pixels.{left, left-all, pixels-next, pixels-refused, pixels-done}
 use Rattle.convert.proofs.rgbe.check_rgbe.Statement.{statement}
 use Rattle.convert.proofs.rgbe.check_rgbe.Tie as tie
 
 abbrev Inv-loop : tie.InvT-loop
-Inv-loop source pixels p₀ p = firstRefusal (left source p) ≡ firstRefusal (elements rgbe source)
+Inv-loop source pixels p₀ p = firstRefusal (left source p) ≡ firstRefusal (decodedSource rgbe source)
 
 abbrev μ-loop : tie.MeasureT-loop
 μ-loop source pixels p₀ p = pixels - p

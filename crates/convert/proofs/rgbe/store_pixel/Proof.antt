@@ -12,11 +12,11 @@ returns c =
     let d = g .before in
     let r = d .before in
     rw (
-      c .word-of3 .ensures,
+      c .decoded-word3 .ensures,
       b .rgbe-to-channel3 .ensures,
-      g .word-of2 .ensures,
+      g .decoded-word2 .ensures,
       d .rgbe-to-channel2 .ensures,
-      r .word-of .ensures,
+      r .decoded-word .ensures,
       r .before .rgbe-to-channel .ensures,
     )
 

@@ -7,7 +7,7 @@ use lib.ListN.{length}
 use lib.Seq.{sets}
 use Rattle.word.specs.Words.{bodyWords}
 use Rattle.word.specs.Placing.{channelsOf}
-use Rattle.convert.specs.Formats.{rgbe, elements}
+use Rattle.convert.specs.Formats.{rgbe, decodedSource}
 use Rattle.convert.proofs.Pixels.{writing, writing-all, writing-next, writing-done}
 use Rattle.convert.proofs.rgbe.store_rgbe.Statement.{statement}
 use Rattle.convert.proofs.rgbe.store_rgbe.Tie as tie
@@ -15,7 +15,7 @@ use Rattle.convert.proofs.rgbe.store_rgbe.Tie as tie
 abbrev Inv-loop : tie.InvT-loop
 Inv-loop source output₀ pixels p₀ output p =
     (length output ≡ length output₀)
-    × (writing source p output ≡ sets output₀ 2 (bodyWords 0 (channelsOf (elements rgbe source))))
+    × (writing source p output ≡ sets output₀ 2 (bodyWords 0 (channelsOf (decodedSource rgbe source))))
 
 abbrev μ-loop : tie.MeasureT-loop
 μ-loop source output₀ pixels p₀ output p = pixels - p

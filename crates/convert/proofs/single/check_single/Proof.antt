@@ -7,12 +7,12 @@ use native.Mathlib.Nat.{zero-add}
 use lib.ListN.{length}
 use Rattle.word.specs.Placing.{firstRefusal}
 use Rattle.word.proofs.Walks.{checking, checking-all, checking-next, checking-refused, checking-done}
-use Rattle.convert.specs.Formats.{single, singleElement, elements}
+use Rattle.convert.specs.Formats.{single, singleElement, decodedSource}
 use Rattle.convert.proofs.single.check_single.Statement.{statement}
 use Rattle.convert.proofs.single.check_single.Tie as tie
 
 abbrev Inv-loop : tie.InvT-loop
-Inv-loop source k₀ k = checking singleElement 0 source k ≡ firstRefusal (elements single source)
+Inv-loop source k₀ k = checking singleElement 0 source k ≡ firstRefusal (decodedSource single source)
 
 abbrev μ-loop : tie.MeasureT-loop
 μ-loop source k₀ k = length source - k

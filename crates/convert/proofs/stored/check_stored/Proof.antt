@@ -7,12 +7,12 @@ use native.Mathlib.Nat.{zero-add}
 use lib.ListN.{length}
 use Rattle.word.specs.Placing.{firstRefusal}
 use Rattle.word.proofs.Walks.{checking, checking-all, checking-next, checking-refused, checking-done}
-use Rattle.convert.specs.Formats.{stored, storedElement, elements}
+use Rattle.convert.specs.Formats.{stored, storedElement, decodedSource}
 use Rattle.convert.proofs.stored.check_stored.Statement.{statement}
 use Rattle.convert.proofs.stored.check_stored.Tie as tie
 
 abbrev Inv-loop : tie.InvT-loop
-Inv-loop source k₀ k = checking storedElement 0 source k ≡ firstRefusal (elements stored source)
+Inv-loop source k₀ k = checking storedElement 0 source k ≡ firstRefusal (decodedSource stored source)
 
 abbrev μ-loop : tie.MeasureT-loop
 μ-loop source k₀ k = length source - k

@@ -1,4 +1,4 @@
--- `strip::read::unpack` meets its contract: a refusal comes before the first store, and what is stored is `codesIn`.
+-- `strip::read::unpack` meets its contract: a refusal comes before the first store, and what is stored is `stripCodes`.
 -- Assumes nothing.
 use borrow.Author.Needs.{needs}
 use Prim.Native.Nat.{_*_}

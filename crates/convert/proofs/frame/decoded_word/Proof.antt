@@ -1,10 +1,10 @@
--- `convert::frame::word_of` meets its contract. Assumes nothing.
+-- `convert::frame::decoded_word` meets its contract. Assumes nothing.
 use borrow.Author.Needs.{needs}
-use Rattle.convert.proofs.frame.word_of.Statement.{statement}
-use Rattle.convert.proofs.frame.word_of.Tie as tie
+use Rattle.convert.proofs.frame.decoded_word.Statement.{statement}
+use Rattle.convert.proofs.frame.decoded_word.Tie as tie
 
-pub word-of-spec : {M : Type 1} → statement M
-word-of-spec =
+pub decoded-word-spec : {M : Type 1} → statement M
+decoded-word-spec =
     tie.close
     (tie.spec
     (λ c. search needs) (λ c κs. search needs) (λ c κs. search needs) (λ c. search needs) (λ c κs. search needs)
