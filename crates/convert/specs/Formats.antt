@@ -21,7 +21,7 @@ perPixel half = 3
 perPixel single = 3
 perPixel stored = 3
 
--- what an element stands for as channel k
+-- what an element decodes to, whichever channel it is
 abbrev pub halfElement : (k bits : ℕ) → Decoded
 halfElement k b = channelOfValue (halfValue b)
 
@@ -51,7 +51,7 @@ rgbePixels i (r ∷ g ∷ []) = []
 rgbePixels i (r ∷ g ∷ b ∷ []) = []
 rgbePixels i (r ∷ g ∷ b ∷ e ∷ bytes) = rgbePixel i r g b e ++ rgbePixels (i + 4) bytes
 
--- the channels of a picture in order
+-- what a picture decodes to, its channels in order
 abbrev pub decodedSource : Format → List ℕ → List Placed
 decodedSource rgbe xs = rgbePixels 0 xs
 decodedSource half xs = placed halfElement 0 0 xs

@@ -41,7 +41,7 @@ pub fn check_page(header: Header, per: u8, count: usize, room: usize) -> Verdict
     Verdict::Accepted
 }
 
-// The word of channel k.
+// The word of channel k from what it decodes to; black for a refusal, which is never stored.
 pub fn decoded_word(k: usize, decoded: Decoded) -> u32
     ensures { λ r. ⌜ r ≡ channelWord k (codeOf (channelIn decoded)) ⌝ }
 {

@@ -1,4 +1,4 @@
--- The refusal list of document 01, the only list of numbers and places. When a refusal is given stands with the check that gives it.
+-- The refusal list of document 01, the only list of numbers and places. The condition of each stands with the check that makes it.
 -- Assumes nothing.
 use Prim.Native.Nat.{ℕ}
 use Rattle.refusal.specs.declared.Refusal.{Refusal}

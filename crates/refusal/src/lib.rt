@@ -16,13 +16,13 @@ pub enum Refusal {
     NoSuchRow,
 }
 
-// What a refused call tells.
+// What a call reports.
 pub struct Outcome {
     pub number: u64,
     pub place: usize,
 }
 
-// What a check answers: accepted, or refused at the element or word of an index; 0 where the list gives no index.
+// What a check answers: accepted, or refused, with the index where it was found. The index of a refusal that has place 0 says nothing.
 pub enum Verdict {
     Accepted,
     Refused(Refusal, usize),

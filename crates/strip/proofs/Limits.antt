@@ -4,6 +4,7 @@ use mathlib.Core.Path.{_≡_}
 use mathlib.Core.List.{List}
 use mathlib.Core.Bool.{true}
 use native.Mathlib.Nat.{mul-le-mul-left, mul-suc}
+use native.Mathlib.Omega.{arith}
 use borrow.Author.Tests.{eqb-true, leb-true, ltb-true}
 use lib.ListN.{length}
 use Rattle.refusal.specs.declared.Verdict.{Verdict}
@@ -11,6 +12,7 @@ use Rattle.refusal.specs.declared.Verdict.the-variants.{Accepted}
 use Rattle.refusal.proofs.Laws.{require-passed, and-passed}
 use Rattle.word.specs.Words.{endIndex, pixels, sizeFits, keyFits, sizeWord, keyWord, endWord}
 use Rattle.word.specs.Placing.{firstRefusal}
+use Rattle.strip.specs.Claims.{RowsInBody}
 use Rattle.strip.specs.Checks.{
   wordAt,
   headerFields,
@@ -89,3 +91,8 @@ row-limits s y e =
     let q = whole _ s e in
     let below = ltb-true y (headerFields s .height) (require-passed _ _ _ _ (q .0) .0) in
     record { strip = q .1; inside = rw mul-suc at (mul-le-mul-left (headerFields s .width) below) }
+
+pub rows-in-body : RowsInBody
+rows-in-body s y e =
+    let q = row-limits s y e in
+    record { start = omega arith; end = omega (arith, q .inside); there = omega (arith, q .strip .head .long) }

@@ -1,7 +1,7 @@
 -- The checks of a strip in their order. Assumes nothing.
 -- "A strip: fewer than two words is 3; then first word 7, size 1, second word 7, key 2, length 3, row 20, tray 4 where one is lent; then
 -- words in order, 7 before 8; last the end word."
-use Prim.Native.Nat.{ℕ, _+_, _*_}
+use Prim.Native.Nat.{ℕ, _*_}
 use mathlib.Core.List.{List}
 use lib.ListN.{length, getD, take, drop}
 use lib.Dec.{ltb, leb, eqb}

@@ -1,3 +1,4 @@
 pub mod Checks
 pub mod Reading
 pub mod Output
+pub mod Claims

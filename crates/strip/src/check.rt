@@ -15,7 +15,7 @@ use word::header::check_size_word;
 use word::header::pixel_count;
 
 // The header words and the length.
-pub fn check_head(strip: &[u32]) -> Verdict
+fn check_head(strip: &[u32]) -> Verdict
     ensures { λ r. ⌜ r ≡ checkHead (now (strip .entry)) ⌝ }
 {
     if strip.len() < 2 {
@@ -36,7 +36,7 @@ pub fn check_head(strip: &[u32]) -> Verdict
     }
 }
 
-// The channel words, as they stand from BODY_START on: the first that is no channel of its kind ends the walk.
+// The channel words: the first that is no channel of its kind ends the walk. The first word is that of channel 0, at BODY_START.
 fn check_channels(words: &[u32]) -> Verdict
     ensures { λ r. ⌜ r ≡ firstRefusal (placed decodeWord 2 0 (now (words .entry))) ⌝ }
 {

@@ -22,7 +22,8 @@ heightIn w = w % 2 ^ 14
 abbrev pub low16 : (w : ℕ) → ℕ
 low16 w = w % 2 ^ 16
 
--- ---- A "foreign word": "kind, spare bits or end count wrong". It is not the word that its own fields are written as.
+-- ---- "foreign word": "kind, spare bits or end count wrong". A word is foreign where it differs from the word that its own fields are
+-- written as. (The end word is checked with the strip.)
 
 -- "first word 7, size 1"
 unfoldable pub checkSizeWord : (w : ℕ) → Verdict

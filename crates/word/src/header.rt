@@ -62,7 +62,7 @@ pub fn key_word(key: u16) -> u32
     2 * 268435456 + key as u32
 }
 
-// The first word of a strip.
+// The verdict on the first word of a strip.
 pub fn check_size_word(word: u32) -> Verdict
     ensures { λ r. ⌜ r ≡ checkSizeWord word ⌝ }
 {
@@ -78,7 +78,7 @@ pub fn check_size_word(word: u32) -> Verdict
     }
 }
 
-// The second word of a strip.
+// The verdict on the second word of a strip.
 pub fn check_key_word(word: u32) -> Verdict
     ensures { λ r. ⌜ r ≡ checkKeyWord word ⌝ }
 {
