@@ -14,6 +14,7 @@ use refusal::Verdict;
 use word::body::BODY_START;
 use word::body::channel_word;
 use word::header::Header;
+use word::header::end_word;
 use word::header::key_fits;
 use word::header::key_word;
 use word::header::size_fits;
@@ -63,5 +64,5 @@ pub fn store_frame(header: Header, output: &mut [u32])
     let end = BODY_START + 3 * (pixels as usize);
     output[0] = size_word(width as u16, height as u16);
     output[1] = key_word(key as u16);
-    output[end] = (7 * 268435456 + pixels) as u32;
+    output[end] = end_word(pixels as u32) as u32;
 }

@@ -12,6 +12,8 @@ use word::body::decode_word;
 use word::body::verdict_at;
 use word::header::check_key_word;
 use word::header::check_size_word;
+use word::header::end_word;
+use word::header::height_in;
 use word::header::pixel_count;
 
 // The header words and the length.
@@ -62,7 +64,7 @@ fn check_body(strip: &[u32]) -> Verdict
     let Verdict::Accepted = channels else {
         return channels;
     };
-    if strip[end] as usize == 7 * 268435456 + pixels {
+    if strip[end] as u64 == end_word(pixels as u32) {
         Verdict::Accepted
     } else {
         Verdict::Refused(Refusal::UnexpectedWord, end)
@@ -102,7 +104,7 @@ pub fn check_row(strip: &[u32], y: usize) -> Verdict
     let Verdict::Accepted = head else {
         return head;
     };
-    let height = (strip[0] % 16384) as usize;
+    let height = height_in(strip[0]) as usize;
     if height <= y {
         return Verdict::Refused(Refusal::NoSuchRow, 0);
     }

@@ -13,7 +13,10 @@ use refusal::Refusal;
 use refusal::Verdict;
 use word::body::BODY_START;
 use word::header::Header;
+use word::header::height_in;
+use word::header::low_half;
 use word::header::pixel_count;
+use word::header::width_in;
 
 // The header of an accepted strip, or its refusal with the index where it was found.
 pub enum HeaderOrRefusal {
@@ -28,9 +31,9 @@ pub fn header(strip: &[u32]) -> HeaderOrRefusal
     let verdict = check(strip);
     match verdict {
         Verdict::Accepted => HeaderOrRefusal::Holds(Header {
-            width: (strip[0] / 16384 % 16384) as u64,
-            height: (strip[0] % 16384) as u64,
-            key: (strip[1] % 65536) as u64,
+            width: width_in(strip[0]) as u64,
+            height: height_in(strip[0]) as u64,
+            key: low_half(strip[1]) as u64,
         }),
         Verdict::Refused(refusal, i) => HeaderOrRefusal::Refuses(refusal, i),
     }
@@ -43,7 +46,7 @@ fn store_codes(words: &[u32], output: &mut [u16])
 {
     let mut i: usize = 0;
     while i < words.len() {
-        output[i] = (words[i] % 65536) as u16;
+        output[i] = low_half(words[i]);
         i += 1;
     }
 }

@@ -5,6 +5,7 @@ ghost use Rattle.strip.specs.Reading.{rowPart, wordsOf, pointerTo};
 use crate::check::check_row;
 use refusal::Verdict;
 use word::body::BODY_START;
+use word::header::width_in;
 
 // The words of row y, from the red word of its first pixel to the blue word of its last; the empty part where `check_row` refuses.
 pub fn row(strip: &[u32], y: usize) -> &[u32]
@@ -15,7 +16,7 @@ pub fn row(strip: &[u32], y: usize) -> &[u32]
     let Verdict::Accepted = verdict else {
         return &strip[..0];
     };
-    let width = (strip[0] / 16384 % 16384) as usize;
+    let width = width_in(strip[0]) as usize;
     let start = BODY_START + 3 * (width * y);
     &strip[start..start + 3 * width]
 }

@@ -3,6 +3,7 @@ ghost use mathlib.Core.Path.{_≡_};
 ghost use Rattle.word.specs.Words.{channelWord};
 ghost use Rattle.word.specs.Fields.{decodeWord};
 ghost use Rattle.word.specs.Placing.{verdictAt};
+use crate::header::low_half;
 use number::channel::Decoded;
 use number::channel::code_to_channel;
 use refusal::Refusal;
@@ -22,7 +23,7 @@ pub fn channel_word(k: usize, code: u16) -> u32
 pub fn decode_word(k: usize, word: u32) -> Decoded
     ensures { λ r. ⌜ r ≡ decodeWord k word ⌝ }
 {
-    let code = (word % 65536) as u16;
+    let code = low_half(word);
     if word == channel_word(k, code) {
         code_to_channel(code)
     } else {

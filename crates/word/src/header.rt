@@ -1,8 +1,8 @@
 // A page's header, its limits, and the two words that it stands in.
 ghost use mathlib.Core.Path.{_≡_};
 ghost use Prim.Native.Nat.{_*_};
-ghost use Rattle.word.specs.Words.{sizeFits, keyFits, sizeWord, keyWord};
-ghost use Rattle.word.specs.Fields.{widthIn, heightIn, checkSizeWord, checkKeyWord};
+ghost use Rattle.word.specs.Words.{sizeFits, keyFits, sizeWord, keyWord, endWord};
+ghost use Rattle.word.specs.Fields.{widthIn, heightIn, low16, checkSizeWord, checkKeyWord};
 use refusal::Refusal;
 use refusal::Verdict;
 
@@ -48,6 +48,26 @@ pub fn key_fits(key: u64) -> bool
     key <= GREATEST_KEY
 }
 
+// Width and height of a size word.
+pub fn width_in(word: u32) -> u16
+    ensures { λ r. ⌜ r ≡ widthIn word ⌝ }
+{
+    (word / 16384 % 16384) as u16
+}
+
+pub fn height_in(word: u32) -> u16
+    ensures { λ r. ⌜ r ≡ heightIn word ⌝ }
+{
+    (word % 16384) as u16
+}
+
+// The lower half of a word: a key, or a channel's 16-bit form.
+pub fn low_half(word: u32) -> u16
+    ensures { λ r. ⌜ r ≡ low16 word ⌝ }
+{
+    (word % 65536) as u16
+}
+
 // The size word of a page.
 pub fn size_word(width: u16, height: u16) -> u32
     ensures { λ r. ⌜ r ≡ sizeWord width height ⌝ }
@@ -62,12 +82,19 @@ pub fn key_word(key: u16) -> u32
     2 * 268435456 + key as u32
 }
 
+// The end word of a page of so many pixels; a page of up to 2^28 pixels has one of 32 bits.
+pub fn end_word(pixels: u32) -> u64
+    ensures { λ r. ⌜ r ≡ endWord pixels ⌝ }
+{
+    7 * 268435456 + pixels as u64
+}
+
 // The verdict on the first word of a strip.
 pub fn check_size_word(word: u32) -> Verdict
     ensures { λ r. ⌜ r ≡ checkSizeWord word ⌝ }
 {
-    let width = (word / 16384 % 16384) as u16;
-    let height = (word % 16384) as u16;
+    let width = width_in(word);
+    let height = height_in(word);
     if word != size_word(width, height) {
         return Verdict::Refused(Refusal::UnexpectedWord, 0);
     }
@@ -82,7 +109,7 @@ pub fn check_size_word(word: u32) -> Verdict
 pub fn check_key_word(word: u32) -> Verdict
     ensures { λ r. ⌜ r ≡ checkKeyWord word ⌝ }
 {
-    let key = (word % 65536) as u16;
+    let key = low_half(word);
     if word != key_word(key) {
         return Verdict::Refused(Refusal::UnexpectedWord, 1);
     }
@@ -97,7 +124,5 @@ pub fn check_key_word(word: u32) -> Verdict
 pub fn pixel_count(word: u32) -> usize
     ensures { λ r. ⌜ r ≡ widthIn word * heightIn word ⌝ }
 {
-    let width = (word / 16384 % 16384) as usize;
-    let height = (word % 16384) as usize;
-    width * height
+    width_in(word) as usize * height_in(word) as usize
 }

@@ -1,7 +1,7 @@
 -- `strip::check::check_body` meets its contract. Assumes nothing.
 use borrow.Author.Needs.{needs}
 use Prim.Native.Nat.{_*_, _+_}
-use mathlib.Core.Path.{_≡_, sym}
+use mathlib.Core.Path.{_≡_, sym, _∙_}
 use native.Mathlib.Omega.{arith}
 use native.Mathlib.Nat.{add-sub-cancel-left}
 use borrow.Author.Tests.{eq-eqb, ne-eqb}
@@ -33,18 +33,27 @@ cast-if1 c =
 returns-2 : tie.Need-returns-2
 unfolding checkBody require andThen
 returns-2 c =
-    let b = c .before .before .before .before in
+    let n = c .before in
+    let b = n .before .before .before .before in
     let p = b .before .before in
     let e = rw (add-sub-cancel-left 2 (3 * p .pixel-count .result)) at (b .check-channels .ensures) in
-    simp (sym (p .pixel-count .ensures), sym e, c .before .before .enum-told .given .1, eq-eqb _ _ (c .if1 .taken))
+    let last = c .if1 .taken ∙ n .end-word .ensures in
+    simp (sym (p .pixel-count .ensures), sym e, n .before .before .enum-told .given .1, eq-eqb _ _ last)
 
 returns-3 : tie.Need-returns-3
 unfolding checkBody require andThen
 returns-3 c =
-    let b = c .before .before .before .before in
+    let n = c .before in
+    let b = n .before .before .before .before in
     let p = b .before .before in
     let e = rw (add-sub-cancel-left 2 (3 * p .pixel-count .result)) at (b .check-channels .ensures) in
-    simp (sym (p .pixel-count .ensures), sym e, c .before .before .enum-told .given .1, ne-eqb _ _ (c .if1 .left))
+    simp (
+      sym (p .pixel-count .ensures),
+      sym e,
+      n .before .before .enum-told .given .1,
+      sym (n .end-word .ensures),
+      ne-eqb _ _ (c .if1 .left),
+    )
 
 pub check-body-spec : {M : Type 1} → statement M
 check-body-spec =
@@ -54,5 +63,6 @@ check-body-spec =
     (λ c. omega (arith, long c)) (λ c. search needs) (λ c. search needs) (λ c. omega (arith, long c))
     (λ c κs. search needs) (λ c. search needs) (λ c. search needs) returns
     (λ c. omega (arith, long (c .before .before .before .before)))
-    (λ c. omega (arith, long (c .before .before .before .before .before))) cast-if1 (λ c. search needs)
-    (λ c. omega (arith, pixels-small _ _ (c .before .before .before .before .before .pixel-count .ensures))) returns-2 returns-3)
+    (λ c. omega (arith, long (c .before .before .before .before .before))) cast-if1
+    (λ c. omega (arith, pixels-small _ _ (c .before .before .before .before .before .pixel-count .ensures))) (λ c κs. search needs)
+    returns-2 returns-3)

@@ -20,18 +20,27 @@ head c = headed _ (cc)
 returns-2 : tie.Need-returns-2
 unfolding checkRow checkWith andThen require
 returns-2 c =
-    let h = c .before .before in
-    simp (sym (h .before .before .check-head .ensures), h .enum-told .given .1, le-ltb _ _ (c .if1 .taken))
+    let g = c .before in
+    let h = g .before .before in
+    simp
+    (sym (h .before .before .check-head .ensures), h .enum-told .given .1, sym (g .height-in .ensures), le-ltb _ _ (c .if1 .taken))
 
 returns-3 : tie.Need-returns-3
 unfolding checkRow checkWith andThen require
 returns-3 c =
-    let h = c .before .before .before in
-    simp (sym (h .before .before .check-head .ensures), h .enum-told .given .1, lt-ltb _ _ (c .before .if1 .left)) (c .check-body .ensures)
+    let g = c .before .before in
+    let h = g .before .before in
+    simp (
+      sym (h .before .before .check-head .ensures),
+      h .enum-told .given .1,
+      sym (g .height-in .ensures),
+      lt-ltb _ _ (c .before .if1 .left),
+    )
+    (c .check-body .ensures)
 
 pub check-row-spec : {M : Type 1} → statement M
 check-row-spec =
     tie.close
     (tie.spec
     (λ c κs. search needs) (λ c. search needs) (λ c. search needs) returns (λ c. omega (arith, head (c .before) .long))
-    (λ c. search needs) returns-2 (λ c κs. cc) returns-3)
+    (λ c κs. search needs) (λ c. search needs) returns-2 (λ c κs. cc) returns-3)

@@ -13,12 +13,25 @@ strip : (c : tie.After-enum-told) → Whole (now (c .before .before .before .bef
 unfolding checkStrip
 strip c = whole Accepted (now (c .before .before .before .before .args .strip)) (cc) .1
 
+returns : tie.Need-returns
+returns c =
+    let h = c .before .before in
+    let w = h .before .before in
+    let k = w .before .before in
+    simp (
+      c .low-half .ensures,
+      h .height-in .ensures,
+      w .width-in .ensures,
+      sym (k .before .before .check .ensures),
+      k .enum-told .given .1,
+    )
+
 pub header-spec : {M : Type 1} → statement M
 header-spec =
     tie.close
     (tie.spec
-    (λ c κs. search needs) (λ c. search needs) (λ c. omega (arith, strip (c .before) .head .long)) (λ c. search needs)
-    (λ c. omega (arith, strip (c .before .before) .head .long)) (λ c. search needs)
-    (λ c. omega (arith, strip (c .before .before .before) .head .long)) (λ c. search needs) (λ c. search needs)
-    (λ c. simp (sym (c .before .before .before .before .before .check .ensures), c .before .before .before .enum-told .given .1))
+    (λ c κs. search needs) (λ c. search needs) (λ c. omega (arith, strip (c .before) .head .long)) (λ c κs. search needs)
+    (λ c. search needs) (λ c. omega (arith, strip (c .before .before .before) .head .long)) (λ c κs. search needs)
+    (λ c. search needs) (λ c. omega (arith, strip (c .before .before .before .before .before) .head .long)) (λ c κs. search needs)
+    (λ c. search needs) (λ c. search needs) returns
     (λ c. simp (sym (c .before .before .before .check .ensures), c .before .verdict .given .1)))

@@ -10,12 +10,15 @@ returns : tie.Need-returns
 unfolding decodeWord
 returns c =
     let b = c .before in
-    simp (eq-eqb _ _ (b .if1 .taken ∙ b .before .channel-word .ensures)) (c .code-to-channel .ensures)
+    let w = b .before in
+    simp (sym (w .before .low-half .ensures), eq-eqb _ _ (b .if1 .taken ∙ w .channel-word .ensures)) (c .code-to-channel .ensures)
 
 returns-2 : tie.Need-returns-2
 unfolding decodeWord
-returns-2 c = simp (sym (c .before .channel-word .ensures), ne-eqb _ _ (c .if1 .left))
+returns-2 c =
+    let w = c .before in
+    simp (sym (w .before .low-half .ensures), sym (w .channel-word .ensures), ne-eqb _ _ (c .if1 .left))
 
 pub decode-word-spec : {M : Type 1} → statement M
 decode-word-spec =
-    tie.close (tie.spec (λ c. search needs) (λ c κs. search needs) (λ c κs. search needs) returns returns-2)
+    tie.close (tie.spec (λ c κs. search needs) (λ c κs. search needs) (λ c κs. search needs) returns returns-2)

@@ -9,23 +9,40 @@ use Rattle.word.proofs.header.check_size_word.Tie as tie
 
 returns : tie.Need-returns
 unfolding checkSizeWord require
-returns c = simp (sym (c .before .size-word .ensures), ne-eqb _ _ (c .if1 .taken))
+returns c =
+    let s = c .before in
+    let h = s .before in
+    simp (sym (h .before .width-in .ensures), sym (h .height-in .ensures), sym (s .size-word .ensures), ne-eqb _ _ (c .if1 .taken))
 
 returns-2 : tie.Need-returns-2
 unfolding checkSizeWord require
 returns-2 c =
     let b = c .before .before in
-    simp (eq-eqb _ _ (b .if1 .left ∙ b .before .size-word .ensures), sym (c .before .size-fits .ensures), c .if2 .taken)
+    let h = b .before .before in
+    simp (
+      sym (h .before .width-in .ensures),
+      sym (h .height-in .ensures),
+      eq-eqb _ _ (b .if1 .left ∙ b .before .size-word .ensures),
+      sym (c .before .size-fits .ensures),
+      c .if2 .taken,
+    )
 
 returns-3 : tie.Need-returns-3
 unfolding checkSizeWord require
 returns-3 c =
     let b = c .before .before in
-    simp (eq-eqb _ _ (b .if1 .left ∙ b .before .size-word .ensures), sym (c .before .size-fits .ensures), c .if2 .left)
+    let h = b .before .before in
+    simp (
+      sym (h .before .width-in .ensures),
+      sym (h .height-in .ensures),
+      eq-eqb _ _ (b .if1 .left ∙ b .before .size-word .ensures),
+      sym (c .before .size-fits .ensures),
+      c .if2 .left,
+    )
 
 pub check-size-word-spec : {M : Type 1} → statement M
 check-size-word-spec =
     tie.close
     (tie.spec
-    (λ c. search needs) (λ c. search needs) (λ c κs. search needs) returns (λ c. search needs) (λ c. search needs)
+    (λ c κs. search needs) (λ c κs. search needs) (λ c κs. search needs) returns (λ c. search needs) (λ c. search needs)
     (λ c κs. search needs) returns-2 returns-3)
