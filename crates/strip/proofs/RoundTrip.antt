@@ -5,8 +5,8 @@ use mathlib.Core.List.{List, [], _∷_, _++_}
 use mathlib.Core.Bool.{true}
 use native.Mathlib.Omega.{arith}
 use borrow.Author.Tests.{eq-eqb, le-leb}
-use lib.ListN.{length, getD, take, drop, length-map, length-append, length-drop, drop-of-length-le}
-use lib.Seq.{take-at, getD-at, split-at, length-take-le}
+use lib.ListN.{length, getD, take, drop, length-map, length-append, length-drop}
+use lib.Seq.{take-at, getD-at, take-suc, take-all, length-take-le}
 use Rattle.number.specs.declared.channel.Channel.{Channel}
 use Rattle.number.specs.declared.channel.Channel.the-variants.{Black, Lit}
 use Rattle.number.specs.declared.channel.Decoded.{Decoded}
@@ -175,8 +175,8 @@ module _ (h : Header) (cs : List Channel) (ok : IsPage h cs) where
 split-last : (n : ℕ) (xs : List ℕ) → length xs ≡ n + 1 → take n xs ++ (getD xs n 0 ∷ []) ≡ xs
 split-last n xs e =
     let inside : n < length xs = omega arith in
-    let none : length xs ≤ suc n = omega arith in
-    sym (split-at xs n 0 inside ∙ rw (drop-of-length-le xs none))
+    let all : length xs ≤ suc n = omega arith in
+    sym (take-suc xs n 0 inside) ∙ take-all (suc n) xs all
 
 -- it is the strip of its header and channels
 pub same-words : (s : List ℕ) → Whole s → stripOf (headerFields s) (stripChannels s) ≡ s

@@ -11,7 +11,7 @@ use Rattle.strip.specs.declared.read.HeaderOrRefusal.{HeaderOrRefusal}
 use Rattle.strip.specs.declared.read.HeaderOrRefusal.the-variants.{Holds, Refuses}
 use Rattle.word.specs.Words.{bodyStart}
 use Rattle.word.specs.Placing.{channelsOf}
-use Rattle.strip.specs.Checks.{headerFields, decodedBody, checkStrip}
+use Rattle.strip.specs.Checks.{headerFields, decodedBody, checkStrip, checkRow}
 
 abbrev pub headerUnder : Verdict → Header → HeaderOrRefusal
 headerUnder Accepted h = Holds h
@@ -45,3 +45,7 @@ pointerTo p (block, offset) = (block, p .start * 4 + offset)
 abbrev pub rowPart : Verdict → List ℕ → (y : ℕ) → Part
 rowPart Accepted s y = record { start = bodyStart (headerFields s) + 3 * (headerFields s .width * y); count = 3 * headerFields s .width }
 rowPart (Refused r i) s y = record { start = 0; count = 0 }
+
+-- row y, or the empty part
+abbrev pub rowOf : List ℕ → (y : ℕ) → Part
+rowOf s y = rowPart (checkRow s y) s y
