@@ -1,6 +1,11 @@
--- The laws of storing for the crates above, each once and for any rational. Nothing else of this crate's proofs is theirs to cite.
+-- Stored numbers for the crates above: what storing is, and its laws, each once and for any rational. The tone steps cite this module and
+-- nothing beneath it.
 -- Assumes nothing.
 
+-- fractions; the rule of storing, worths in units of 2^-137, and what is stored; channels and their worths
+pub use Rattle.number.specs.Fractions.{Frac, _over_, twoToMinus, twoTo, Positive, Equal, AtMost, Below, Near}
+pub use Rattle.number.specs.Storing.{Normalised, Scales, IsMantissa, Promised, Stores, unit, worth, storedOf, ratioOf}
+pub use Rattle.number.specs.Channels.{IsLit, IsChannel, worthOf}
 -- existence and uniqueness of exponent and mantissa; what storing promises
 pub use Rattle.number.proofs.Storing.{scales-exist}
 pub use Rattle.number.proofs.Scaling.{unique-exponent, unique-mantissa, promised}
@@ -11,7 +16,7 @@ pub use Rattle.number.proofs.Scaling.{shift-exponent, worth-mono, idemp
 -- the thresholds of the exponent
 pub use Rattle.number.proofs.Scaling.{at-most-down, above-down, at-most-up, above-up}
 -- an exponent from 0 on, and worths in units; `exponentOf` and `mantissaOf` store
-pub use Rattle.number.proofs.Storing.{unit-pos, exponent-natural, worth-scaled, near, stored, stored-as}
+pub use Rattle.number.proofs.Storing.{unit-pos, unit-power, exponent-natural, worth-scaled, near, stored, stored-as}
 -- where the exponent fits eight bits
 pub use Rattle.number.proofs.Storing.{too-small-at, fits-at, too-large-at, fits-between}
 -- a fraction that is known to lie in the cell of a mantissa
@@ -19,6 +24,6 @@ pub use Rattle.number.proofs.Normalised.{cell}
 -- a sum cut to one sticky bit is stored as the whole sum
 pub use Rattle.number.proofs.Sticky.{sticky-bit}
 -- the order of 256E + M; channels
-pub use Rattle.number.proofs.Storing.{code-order}
+pub use Rattle.number.proofs.Storing.{code-order, code-mono}
 pub use Rattle.number.proofs.Channels.{Coded, code-channel, channel-code, channel-order, channel-valid}
 pub use Rattle.number.proofs.Sources.{half-valid, single-valid, rgbe-valid}

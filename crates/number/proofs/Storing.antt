@@ -7,6 +7,7 @@ use native.Mathlib.Nat.{
   eq-or-lt-of-le,
   le-div-iff-mul-le,
   le-mul-of-pos-right,
+  le-of-suc-le-suc,
   le-refl,
   le-trans,
   lt-irrefl,
@@ -27,7 +28,7 @@ use lib.IntN.{pos}
 use lib.Ieee.{size}
 use lib.Ieee.Digits.{size-lt, size-reaches}
 use lib.Pow.{pow-pos, pow-mono}
-use Rattle.number.specs.Fractions.{Frac, _over_, twoToMinus, Positive, Equal, Below, Near}
+use Rattle.number.specs.Fractions.{Frac, _over_, twoToMinus, Positive, Equal, AtMost, Below, Near}
 use Rattle.number.specs.Storing.{
   exponentAt,
   Scales,
@@ -49,6 +50,7 @@ use Rattle.number.proofs.Scaling.{
   steep,
   unique-powers,
   unique-mantissa,
+  worth-mono,
   promised,
 }
 use Rattle.number.proofs.Ranges.{within, small-at, within-at, large-at}
@@ -56,6 +58,10 @@ use Rattle.number.proofs.Ranges.{within, small-at, within-at, large-at}
 pub unit-pos : 0 < unit
 unfolding unit
 unit-pos = lit< tt
+
+pub unit-power : unit ≡ 2 ^ 137
+unfolding unit
+unit-power = refl
 
 -- ---- an exponent that is not negative, and worths in units
 
@@ -87,6 +93,14 @@ code-order E M E′ M′ m m′ = (code-less E M E′ M′ m m′, λ h. lt-of-n
 
     greater : Below (worth E M) (worth E′ M′) → 256 * E′ + M′ < 256 * E + M → ⊥
     greater h l = lt-irrefl _ (lt-trans (h .cross) (code-less E′ M′ E M m′ m l .cross))
+
+-- and so what is stored of the larger number has no smaller one
+pub code-mono : {F G : Frac} {E M E′ M′ : ℕ} → Stores F E M → Stores G E′ M′ → AtMost F G → 256 * E + M ≤ 256 * E′ + M′
+code-mono {F} {G} {E} {M} {E′} {M′} s t h =
+    le-of-suc-le-suc (lt-of-not-le (λ g.
+    lt-irrefl _ (lt-of-le-of-lt
+    (subst₂ AtMost (sym (worth-scaled E M)) (sym (worth-scaled E′ M′)) (worth-mono s t h) .cross)
+    (code-less E′ M′ E M (promised t .mantissa) (promised s .mantissa) g .cross))))
 
 -- ---- `exponentOf` and `mantissaOf` store
 

@@ -1,0 +1,8 @@
+pub mod Fractions
+pub mod Ratios
+pub mod Pixels
+pub mod Tables
+pub mod Averages
+pub mod Tallies
+pub mod Levels
+pub mod Claims

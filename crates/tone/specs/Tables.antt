@@ -1,0 +1,30 @@
+-- The tables T and X, by their rules. Assumes nothing.
+use mathlib.Core.Path.{_≡_}
+use mathlib.Core.Bool.{Bool, cond}
+use mathlib.Core.List.{List}
+use Prim.Native.Nat.{ℕ, zero, suc, _+_, _*_, _^_, _<_}
+use lib.Dec.{leb}
+use lib.ListN.{getD}
+
+-- the greatest number up to n that passes the test, and 0 where none does
+unfoldable pub greatest : (ℕ → Bool) → ℕ → ℕ
+greatest test zero = zero
+greatest test (suc n) = cond (test (suc n)) (suc n) (greatest test n)
+
+-- "T[M] is 256 · log2(M + 1/2) rounded down, that is, the greatest t with 2^(t+256) ≤ (2M+1)^256"; no M up to 255 has a t above 2047
+unfoldable pub logTest : (M t : ℕ) → Bool
+logTest M t = leb (2 ^ (t + 256)) ((2 * M + 1) ^ 256)
+
+unfoldable pub logOf : ℕ → ℕ
+logOf M = greatest (logTest M) 2047
+
+-- "X[f] the greatest m with m^256 ≤ 2^(1792+f)"; no f up to 255 has an m above 255
+unfoldable pub rootTest : (f m : ℕ) → Bool
+rootTest f m = leb (m ^ 256) (2 ^ (1792 + f))
+
+unfoldable pub rootOf : ℕ → ℕ
+rootOf f = greatest (rootTest f) 255
+
+-- a list of T[128] to T[255]
+pub record IsLogTable (logs : List ℕ) : Type 0 where
+  pub entry : (k : ℕ) → k < 128 → getD logs k 0 ≡ logOf (128 + k)

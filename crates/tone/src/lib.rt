@@ -1,0 +1,4 @@
+// The tone steps: the luminance of a pixel, the average of a page, the level of a channel.
+pub mod average;
+pub mod luminance;
+pub mod tally;
