@@ -21,6 +21,7 @@ use native.Mathlib.Nat.{
   mul-lt-mul-of-pos-right,
   pow-succ',
 }
+use native.Mathlib.Decide.{decLe}
 use native.Mathlib.Omega.{arith}
 use lib.Dec.{T, leb, ltb, leb→le, ltb→lt, lit<, lit≤}
 use borrow.Author.Tests.{le-ltb}
@@ -53,7 +54,7 @@ use Rattle.number.proofs.Scaling.{
   worth-mono,
   promised,
 }
-use Rattle.number.proofs.Ranges.{within, small-at, within-at, large-at}
+use Rattle.number.proofs.Ranges.{small, within, large, small-at, within-at, large-at}
 
 pub unit-pos : 0 < unit
 unfolding unit
@@ -178,6 +179,24 @@ fits-at s h = within-at _ _ _ _ _ _ s (omega arith) h ∙ ap InRange (stored-as 
 pub too-large-at : {F : Frac} {E M : ℕ} → Stores F E M → 255 < E → ratioOf F ≡ OutOfRange
 unfolding ratioOf
 too-large-at s h = large-at _ _ _ _ _ _ s h
+
+-- what is answered in range is stored
+pub in-range : {F : Frac} → ratioOf F ≡ InRange (storedOf F) → Stores F (exponentOf F) (mantissaOf F)
+unfolding ratioOf
+in-range {F} e = by (decLe (F .num * 2 ^ 129) (1 * F .den)) (decLe (F .num * 1) (2 ^ 127 * F .den))
+  where
+    positive : (n d a b : ℕ) → 1 * d < n * a → n * 1 ≤ b * d → 0 < d
+    positive n zero a b h k = omega (arith, mul-le-mul-right a k)
+    positive n (suc d) a b h k = omega arith
+
+    distinct : OutOfRange ≡ InRange (storedOf F) → ⊥
+    distinct h = let clash : suc zero ≡ zero = cc in omega arith
+
+    by : Dec (F .num * 2 ^ 129 ≤ 1 * F .den) → Dec (F .num * 1 ≤ 2 ^ 127 * F .den) → Stores F (exponentOf F) (mantissaOf F)
+    by (yes h) _ = absurd (distinct (sym (small 129 127 F _ _ _ (record { cross = h })) ∙ e))
+    by (no g) (no h) = absurd (distinct (sym (large 129 127 F _ _ _ (record { cross = lt-of-not-le h })) ∙ e))
+    by (no g) (yes h) =
+        stored F 129 (le-refl 129) (positive (F .num) (F .den) (2 ^ 129) (2 ^ 127) (lt-of-not-le g) h) (record { cross = lt-of-not-le g })
 
 -- num / den · 2^exp in units, by bounds on the three; the two tests are on closed numbers and compute
 pub fits-between : {num den exp : ℕ} (n n′ d d′ e e′ : ℕ)

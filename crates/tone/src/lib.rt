@@ -1,4 +1,5 @@
 // The tone steps: the luminance of a pixel, the average of a page, the level of a channel.
 pub mod average;
 pub mod luminance;
+mod ratio;
 pub mod tally;

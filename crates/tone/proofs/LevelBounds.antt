@@ -1,0 +1,69 @@
+-- Demand 3, second half: a level lies within 5/2 of the exact value, for every curve that never stretches a ratio. Of storing it uses only
+-- that what is stored is near. Assumes nothing.
+use mathlib.Core.Path.{_≡_}
+use Prim.Native.Nat.{ℕ, _+_, _*_, _^_, _≤_, _<_}
+use native.Mathlib.Omega.{arith}
+use native.Mathlib.Nat.{add-comm, mul-le-mul-left, mul-pos}
+use Rattle.number.proofs.Laws.{Frac, Positive, Near}
+use Rattle.tone.specs.Claims.{WithinHalves}
+use Rattle.tone.specs.Fractions.{_·_, _÷_, _•_}
+use Rattle.tone.specs.Levels.{toLevel}
+use Rattle.tone.proofs.Close.{
+  AtMostBy,
+  Close,
+  at-most-refl,
+  at-most-times,
+  at-most-trans,
+  close-refl,
+  near-close,
+  near-pos,
+}
+use Rattle.tone.proofs.Curves.{NeverStretches}
+use Rattle.tone.proofs.Rounding.{rounded}
+
+-- divided by both luminances
+quotients : (n : ℕ) (d c w g b y : Frac) → AtMostBy n (d · y · c) (g · w · b) → AtMostBy n (255 • d · c ÷ w) (255 • g · b ÷ y)
+quotients n d c w g b y h = omega arith
+
+module _ (f : Frac → Frac) (S : NeverStretches f) where
+  -- up to n roundings: if v is at most u and x/u at most y/v, then f(x)/u is at most f(y)/v
+  drift : (n : ℕ) (x y u v : Frac) → AtMostBy n v u → AtMostBy n (x · v) (y · u) → AtMostBy n (f x · v) (f y · u)
+  drift n x y u v h k =
+      let r = S .ratio (256 ^ n * (u .num * v .den)) (255 ^ n * (v .num * u .den)) x y (h .cross) (omega arith) in omega arith
+
+  -- y is the exact luminance and k · y its scaled luminance; w, l and d are stored: luminance, scaled luminance, display luminance. The
+  -- drift of the curve's argument cancels against the luminance that divides.
+  display : (m : ℕ) (k y w l d : Frac) → 0 < y .den → 0 < l .den
+      → Close m y w → Close m (k · w) l → Close 1 (f l) d → Close (1 + m) (d · y) (f (k · y) · w)
+  display m k y w l d py pl hy hl hd =
+      record {
+        above = at-most-trans pos (at-most-times (hd .below) (at-most-refl y))
+            (drift m l (k · y) w y (hy .above) (omega (arith, mul-le-mul-left (y .num * y .den) (hl .below .cross))));
+        below = rw (add-comm 1 m) (at-most-trans pos
+            (drift m (k · y) l y w (hy .below) (omega (arith, mul-le-mul-left (y .num * y .den) (hl .above .cross))))
+            (at-most-times (hd .above) (at-most-refl y)));
+      }
+    where
+      pos : 0 < (f l · y) .den
+      pos = mul-pos (S .den-pos l pl) py
+
+  -- c is the channel, x and b the luminance and the channel of the exact value, m roundings from x to w and j from c to b
+  pub level-within : (h m j : ℕ) (k x w l d c b : Frac) → 511 * 256 ^ (1 + m + j) < h * 256 ^ (1 + m + j) + 510 * 255 ^ (1 + m + j)
+      → 0 < k .den → Positive x → 0 < c .den → 0 < b .den
+      → Close m x w → Positive w → Close m (k · w) l → Near (f l) d → 0 < l .den → Close j c b
+      → WithinHalves h (toLevel (d · c ÷ w)) (255 • f (k · x) · b ÷ x)
+  level-within h m j k x w l d c b room pk px pc pb hx pw hl hd pl hb =
+      let s = display m k x w l d (px .denominator) pl hx hl (near-close hd) in
+      rounded h (1 + m + j) (255 • d · c ÷ w) (255 • f (k · x) · b ÷ x) room
+      (search (mul-pos, near-pos hd .1, pw)) (search (mul-pos, S .den-pos))
+      (record {
+        above = quotients _ d c w (f (k · x)) b x (at-most-times (s .above) (hb .above));
+        below = quotients _ (f (k · x)) b x d c w (at-most-times (s .below) (hb .below));
+      })
+
+  -- on the stored channels: one rounding of the luminance, none of the channel
+  pub level-bound : (k y w l d c : Frac) → 0 < k .den → 0 < c .den → Near y w → Near (k · w) l → Near (f l) d
+      → WithinHalves 5 (toLevel (d · c ÷ w)) (255 • f (k · y) · c ÷ y)
+  level-bound k y w l d c pk pc hy hl hd =
+      level-within 5 1 0 k y w l d c c (omega arith) pk (near-pos hy .0) pc pc (near-close hy) (near-pos hy .1) (near-close hl) hd
+      (near-pos hl .1 .denominator) (close-refl c)

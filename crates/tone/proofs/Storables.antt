@@ -1,0 +1,17 @@
+-- A ratio that fits, and every fraction equal to it: what is stored of them. Assumes nothing.
+use mathlib.Core.Path.{_≡_, sym, subst}
+use Prim.Native.Nat.{_<_}
+use Rattle.number.proofs.Laws.{Frac, Equal, Stores, storedOf, in-range, scales-equal, stored-as}
+use Rattle.number.specs.declared.ratio.Stored.{Stored}
+use Rattle.tone.specs.Ratios.{Storable}
+
+-- F is stored as s
+abbrev pub StoresAs : Frac → Stored → Type 0
+StoresAs F s = Stores F (s .exponent) (s .mantissa)
+
+module _ {F G : Frac} (s : Storable F) (e : Equal F G) (p : 0 < G .den) where
+  pub stored-alike : storedOf G ≡ storedOf F
+  stored-alike = stored-as (in-range (s .in-range)) e p
+
+  pub storable-stores : StoresAs G (storedOf G)
+  storable-stores = subst (StoresAs G) (sym stored-alike) (scales-equal (in-range (s .in-range)) e p)

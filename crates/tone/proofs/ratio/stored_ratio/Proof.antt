@@ -1,0 +1,30 @@
+use borrow.Author.Needs.{needs}
+use Rattle.tone.proofs.ratio.stored_ratio.Statement.{statement}
+use Rattle.tone.proofs.ratio.stored_ratio.Tie as tie
+use Rattle.tone.proofs.ratio.stored_ratio.Reads as reads
+use Rattle.tone.proofs.ratio.stored_ratio.Lts as lts
+use Rattle.number.proofs.ratio.store_ratio.Reads as store-ratio-reads
+
+-- src/ratio.rt:14:9
+store-ratio-requires : tie.Need-store-ratio-requires
+store-ratio-requires c κs = search needs
+
+-- src/ratio.rt:15:30
+enum-known-ratio : tie.Need-enum-known-ratio
+enum-known-ratio c = search needs
+
+-- src/ratio.rt:16:9
+enum-told : tie.Need-enum-told
+enum-told c = search needs
+
+-- src/ratio.rt:16:9
+returns : tie.Need-returns
+returns c = cc
+
+-- src/ratio.rt:10:1
+returns-2 : tie.Need-returns-2
+returns-2 c = cc
+
+pub stored-ratio-spec : {M : Type 1} → statement M
+stored-ratio-spec =
+    tie.close (tie.spec store-ratio-requires enum-known-ratio enum-told returns returns-2)
