@@ -29,7 +29,7 @@ use lib.IntN.{pos}
 use lib.Ieee.{size}
 use lib.Ieee.Digits.{size-lt, size-reaches}
 use lib.Pow.{pow-pos, pow-mono}
-use Rattle.number.specs.Fractions.{Frac, _over_, twoToMinus, Positive, Equal, AtMost, Below, Near}
+use Rattle.number.specs.Fractions.{Frac, _over_, twoToMinus, twoTo, Positive, Equal, AtMost, Below, Near}
 use Rattle.number.specs.Storing.{
   exponentAt,
   Scales,
@@ -198,19 +198,25 @@ in-range {F} e = by (decLe (F .num * 2 ^ 129) (1 * F .den)) (decLe (F .num * 1) 
     by (no g) (yes h) =
         stored F 129 (le-refl 129) (positive (F .num) (F .den) (2 ^ 129) (2 ^ 127) (lt-of-not-le g) h) (record { cross = lt-of-not-le g })
 
--- num / den · 2^exp in units, by bounds on the three; the two tests are on closed numbers and compute
-pub fits-between : {num den exp : ℕ} (n n′ d d′ e e′ : ℕ)
-    → (n ≤ num) × (num ≤ n′) → (d ≤ den) × (den ≤ d′) → (e ≤ exp) × (exp ≤ e′)
-    → T (ltb (1 * (d′ * 2 ^ 137)) (n * 2 ^ e * 2 ^ 129)) → T (leb (n′ * 2 ^ e′ * 1) (2 ^ 127 * (d * 2 ^ 137)))
-    → ratioOf (num * 2 ^ exp over den * unit) ≡ InRange (storedOf (num * 2 ^ exp over den * unit))
-unfolding unit ratioOf
-fits-between n n′ d d′ e e′ hn hd he lo hi =
-    within _ _ _ _ _ _
-    (record {
-      cross = lt-of-le-of-lt (mul-le-mul-left 1 (mul-le-mul-right (2 ^ 137) (hd .1)))
-          (lt-of-lt-of-le (ltb→lt _ _ lo) (mul-le-mul-right (2 ^ 129) (mul-le-mul (hn .0) (pow-mono (he .0)))));
-    })
-    (record {
-      cross = le-trans (mul-le-mul-right 1 (mul-le-mul (hn .1) (pow-mono (he .1))))
-          (le-trans (leb→le _ _ hi) (mul-le-mul-left (2 ^ 127) (mul-le-mul-right (2 ^ 137) (hd .0))));
-    })
+pub fits-between : {F : Frac} → Below (twoToMinus 129) F → AtMost F (twoTo 127) → ratioOf F ≡ InRange (storedOf F)
+unfolding ratioOf
+fits-between g h = within _ _ _ _ _ _ g h
+
+-- num / den · 2^exp in units against a power of two, by bounds on the three; the test is on closed numbers and computes
+pub ratio-above : {num den exp : ℕ} (k n d e : ℕ) → n ≤ num → den ≤ d → e ≤ exp
+    → T (ltb (1 * (d * 2 ^ 137)) (n * 2 ^ e * 2 ^ k)) → Below (twoToMinus k) (num * 2 ^ exp over den * unit)
+unfolding unit
+ratio-above k n d e hn hd he t =
+    record {
+      cross = lt-of-le-of-lt (mul-le-mul-left 1 (mul-le-mul-right (2 ^ 137) hd))
+          (lt-of-lt-of-le (ltb→lt _ _ t) (mul-le-mul-right (2 ^ k) (mul-le-mul hn (pow-mono he))));
+    }
+
+pub ratio-at-most : {num den exp : ℕ} (k n d e : ℕ) → num ≤ n → d ≤ den → exp ≤ e
+    → T (leb (n * 2 ^ e * 1) (2 ^ k * (d * 2 ^ 137))) → AtMost (num * 2 ^ exp over den * unit) (twoTo k)
+unfolding unit
+ratio-at-most k n d e hn hd he t =
+    record {
+      cross = le-trans (mul-le-mul-right 1 (mul-le-mul hn (pow-mono he)))
+          (le-trans (leb→le _ _ t) (mul-le-mul-left (2 ^ k) (mul-le-mul-right (2 ^ 137) hd)));
+    }

@@ -4,10 +4,16 @@ use mathlib.Core.Path.{_≡_}
 use Prim.Native.Nat.{ℕ, _+_, _*_, _^_, _≤_, _<_}
 use native.Mathlib.Omega.{arith}
 use native.Mathlib.Nat.{add-comm, mul-le-mul-left, mul-pos}
-use Rattle.number.proofs.Laws.{Frac, Positive, Near}
-use Rattle.tone.specs.Claims.{WithinHalves}
+use lib.Pow.{pow-pos}
+use Rattle.number.proofs.Laws.{Frac, Positive, Near, worthOf, unit-pos}
+use Rattle.number.specs.declared.channel.Channel.{Channel}
+use Rattle.number.specs.declared.channel.Channel.the-variants.{Black, Lit}
+use Rattle.number.specs.declared.channel.Pixel.{Pixel}
+use Rattle.number.specs.declared.ratio.Stored.{Stored}
+use Rattle.tone.specs.Claims.{WithinHalves, LevelBound}
 use Rattle.tone.specs.Fractions.{_·_, _÷_, _•_}
-use Rattle.tone.specs.Levels.{toLevel}
+use Rattle.tone.specs.Levels.{keyOver, toLevel, levelOf}
+use Rattle.tone.specs.Pixels.{exactLuminance, worthIn}
 use Rattle.tone.proofs.Close.{
   AtMostBy,
   Close,
@@ -48,7 +54,7 @@ module _ (f : Frac → Frac) (S : NeverStretches f) where
       pos = mul-pos (S .den-pos l pl) py
 
   -- c is the channel, x and b the luminance and the channel of the exact value, m roundings from x to w and j from c to b
-  pub level-within : (h m j : ℕ) (k x w l d c b : Frac) → 511 * 256 ^ (1 + m + j) < h * 256 ^ (1 + m + j) + 510 * 255 ^ (1 + m + j)
+  level-within : (h m j : ℕ) (k x w l d c b : Frac) → 511 * 256 ^ (1 + m + j) < h * 256 ^ (1 + m + j) + 510 * 255 ^ (1 + m + j)
       → 0 < k .den → Positive x → 0 < c .den → 0 < b .den
       → Close m x w → Positive w → Close m (k · w) l → Near (f l) d → 0 < l .den → Close j c b
       → WithinHalves h (toLevel (d · c ÷ w)) (255 • f (k · x) · b ÷ x)
@@ -61,9 +67,16 @@ module _ (f : Frac → Frac) (S : NeverStretches f) where
         below = quotients _ (f (k · x)) b x d c w (at-most-times (s .below) (hb .below));
       })
 
-  -- on the stored channels: one rounding of the luminance, none of the channel
-  pub level-bound : (k y w l d c : Frac) → 0 < k .den → 0 < c .den → Near y w → Near (k · w) l → Near (f l) d
-      → WithinHalves 5 (toLevel (d · c ÷ w)) (255 • f (k · y) · c ÷ y)
-  level-bound k y w l d c pk pc hy hl hd =
-      level-within 5 1 0 k y w l d c c (omega arith) pk (near-pos hy .0) pc pc (near-close hy) (near-pos hy .1) (near-close hl) hd
-      (near-pos hl .1 .denominator) (close-refl c)
+  -- of a pixel with the stored luminance y, scaled luminance l and display luminance d: one rounding of the luminance, none of the channel
+  pub pixel-bound : (K : ℕ) (a y l d : Stored) (p : Pixel) (c : Channel)
+      → Near (exactLuminance p) (worthIn y) → Near (keyOver K a · worthIn y) (worthIn l) → Near (f (worthIn l)) (worthIn d)
+      → LevelBound f K a p c (levelOf d c y)
+  unfolding levelOf
+  pixel-bound K a y l d p c hy hl hd =
+      level-within _ 1 0 (keyOver K a) (exactLuminance p) (worthIn y) (worthIn l) (worthIn d) (worthOf c) (worthOf c) (omega arith)
+      (mul-pos {m = 1000} (omega arith) (mul-pos (omega arith) (pow-pos (a .exponent)))) (near-pos hy .0) (channel-pos c) (channel-pos c)
+      (near-close hy) (near-pos hy .1) (near-close hl) hd unit-pos (close-refl (worthOf c))
+    where
+      channel-pos : (c : Channel) → 0 < worthOf c .den
+      channel-pos Black = unit-pos
+      channel-pos (Lit E M) = unit-pos

@@ -6,3 +6,7 @@ pub mod Sticky
 pub mod Storables
 pub mod Sums
 pub mod Luminances
+pub mod Scaled
+pub mod Displays
+pub mod LevelSteps
+pub mod PixelBounds

@@ -18,6 +18,8 @@ use Rattle.number.proofs.Laws.{
   in-range,
   powers-into,
   powers-out,
+  ratio-above,
+  ratio-at-most,
   rescale,
   scales-equal,
   stored-as,
@@ -52,7 +54,11 @@ sorted-cut v v′ v″ e e′ e″ h h′ =
 
 pub cut-storable : (j k : ℕ) → (2 ^ 25 ≤ j) × (j ≤ 2 ^ 42) → (24 ≤ k) × (k ≤ 184) → Storable (unitRatio j 200 (k - 24))
 cut-storable j k l h =
-    record { in-range = fits-between {num = j} {den = 200} {exp = k - 24} (2 ^ 25) (2 ^ 42) 200 200 0 160 l (omega arith) (omega arith) tt tt }
+    record {
+      in-range = fits-between
+          (ratio-above {num = j} {den = 200} {exp = k - 24} 129 (2 ^ 25) 200 0 (l .0) (omega arith) (omega arith) tt)
+          (ratio-at-most {num = j} {den = 200} {exp = k - 24} 127 (2 ^ 42) 200 160 (l .1) (omega arith) (omega arith) tt);
+    }
 
 -- the cut sum of n · 2^24 is stored as n, where n has a term of the exponent k
 module _ (n k v : ℕ) (some : 1 ≤ v) (part : v * 2 ^ k ≤ n) (low : 24 ≤ k) where

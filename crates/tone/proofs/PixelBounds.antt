@@ -1,0 +1,15 @@
+-- Demand 3, second half, of the steps as they are stored, for L/(1+L). Assumes nothing.
+use Rattle.number.proofs.Laws.{near}
+use Rattle.tone.specs.Claims.{LevelIsBounded}
+use Rattle.tone.specs.Levels.{reinhard}
+use Rattle.tone.proofs.Curves.{reinhard-ratio}
+use Rattle.tone.proofs.Displays.{display-stores}
+use Rattle.tone.proofs.LevelBounds.{pixel-bound}
+use Rattle.tone.proofs.Luminances.{luminance-range, luminance-stores}
+use Rattle.tone.proofs.Scaled.{is-scaled, scaled-stores}
+
+pub level-bound : LevelIsBounded
+level-bound p y c K a valid e _ key average =
+    let range = luminance-range p valid y e in
+    pixel-bound reinhard reinhard-ratio K a y _ _ p c (near (luminance-stores p valid y e))
+    (near (scaled-stores K y a key range average)) (near (display-stores _ (is-scaled K y a key range average)))

@@ -1,0 +1,94 @@
+-- Step 4: the scaled luminance of a key, a luminance (e, m) and an average (f, n). Assumes nothing.
+use mathlib.Core.Path.{_≡_, sym, ap, _∙_, subst}
+use Prim.Native.Nat.{ℕ, _+_, _-_, _*_, _^_, _≤_, _<_}
+use native.Mathlib.Nat.{mul-le-mul, mul-pos}
+use native.Mathlib.Omega.{arith}
+use lib.Dec.{T, leb, ltb, lit<}
+use lib.Pow.{pow-add, pow-pos}
+use Rattle.number.proofs.Laws.{
+  Frac,
+  twoTo,
+  twoToMinus,
+  Equal,
+  AtMost,
+  Below,
+  storedOf,
+  unit,
+  unit-pos,
+  unit-power,
+  above-down,
+  at-most-up,
+  fits-between,
+  in-range,
+  promised,
+  ratio-above,
+  ratio-at-most,
+}
+use Rattle.number.specs.declared.ratio.Stored.{Stored}
+use Rattle.tone.specs.Fractions.{_·_}
+use Rattle.tone.specs.Levels.{IsKey, IsStoredAverage, keyOver, scaledOf, IsScaled}
+use Rattle.tone.specs.Pixels.{worthIn, IsLuminance}
+use Rattle.tone.specs.Ratios.{unitRatio, Storable}
+use Rattle.tone.proofs.Storables.{StoresAs, stored-alike, storable-stores}
+
+module _ (K : ℕ) (y a : Stored) (key : IsKey K) (luminance : IsLuminance y) (average : IsStoredAverage a) where
+  abbrev ratio : Frac
+  ratio = unitRatio (K * (2 * y .mantissa + 1)) (1000 * (2 * a .mantissa + 1)) (137 + y .exponent - a .exponent)
+
+  abbrev exact : Frac
+  exact = keyOver K a · worthIn y
+
+  equal : Equal ratio exact
+  equal =
+      record {
+        cross = regroup (2 * y .mantissa + 1) (2 * a .mantissa + 1) (2 ^ (137 + y .exponent - a .exponent)) (2 ^ a .exponent)
+            (2 ^ y .exponent) unit powers;
+      }
+    where
+      powers : 2 ^ (137 + y .exponent - a .exponent) * 2 ^ a .exponent ≡ 2 ^ y .exponent * unit
+      powers =
+          sym (pow-add 2 (137 + y .exponent - a .exponent) (a .exponent)) ∙ ap (λ (z : ℕ). 2 ^ z) (omega (arith, average .most))
+          ∙ pow-add 2 (y .exponent) 137 ∙ ap (λ (u : ℕ). 2 ^ y .exponent * u) (sym unit-power)
+
+      regroup : (v w p q r u : ℕ) → p * q ≡ r * u → K * v * p * (1000 * (w * q) * u) ≡ K * u * (v * r) * (1000 * w * u)
+      regroup v w p q r u h = omega (arith, ap (λ (z : ℕ). K * v * w * u * z) h)
+
+  positive : 0 < exact .den
+  positive =
+      mul-pos {m = 1000 * ((2 * a .mantissa + 1) * 2 ^ a .exponent)}
+      (mul-pos {m = 1000} (lit< tt) (mul-pos (omega arith) (pow-pos (a .exponent)))) unit-pos
+
+  pub scaled-num : (257 ≤ K * (2 * y .mantissa + 1)) × (K * (2 * y .mantissa + 1) ≤ 511000)
+  scaled-num = (
+    mul-le-mul {n₁ = 1} {m₁ = 257} (key .least) (omega (arith, luminance .mantissa)),
+    mul-le-mul {n₂ = 1000} {m₂ = 511} (key .most) (omega (arith, luminance .mantissa)),
+  )
+
+  exponents : (20 ≤ 137 + y .exponent - a .exponent) × (137 + y .exponent - a .exponent ≤ 254)
+  exponents = (omega (arith, luminance, average), omega (arith, luminance, average))
+
+  above : (k : ℕ) → T (ltb (1 * (511000 * 2 ^ 137)) (257 * 2 ^ 20 * 2 ^ k)) → Below (twoToMinus k) ratio
+  above k t = ratio-above k 257 511000 20 (scaled-num .0) (omega (arith, average .mantissa)) (exponents .0) t
+
+  at-most : (k : ℕ) → T (leb (511000 * 2 ^ 254 * 1) (2 ^ k * (257000 * 2 ^ 137))) → AtMost ratio (twoTo k)
+  at-most k t = ratio-at-most k 511000 257000 254 (scaled-num .1) (omega (arith, average .mantissa)) (exponents .1) t
+
+  pub scaled-storable : Storable ratio
+  scaled-storable = record { in-range = fits-between (above 129 tt) (at-most 127 tt) }
+
+  pub scaled-stored : storedOf ratio ≡ scaledOf K y a
+  scaled-stored = sym (stored-alike scaled-storable equal positive)
+
+  pub scaled-stores : StoresAs exact (scaledOf K y a)
+  scaled-stores = storable-stores scaled-storable equal positive
+
+  -- "E is 1 to 246."
+  pub is-scaled : IsScaled (scaledOf K y a)
+  is-scaled =
+      let s = in-range (scaled-storable .in-range) in
+      subst IsScaled scaled-stored
+      (record {
+        least = omega (arith, above-down s 128 .1 (above 128 tt));
+        most = omega (arith, at-most-up s 118 .1 (at-most 118 tt));
+        mantissa = promised s .mantissa;
+      })

@@ -1,0 +1,34 @@
+-- `tone::level::level` meets its contract. Assumes nothing.
+use mathlib.Core.Path.{_∙_}
+use Prim.Native.Nat.{ℕ, _+_, _*_, _≤_}
+use native.Mathlib.Nat.{mul-le-mul}
+use native.Mathlib.Omega.{arith}
+use borrow.Author.Needs.{needs}
+use Rattle.tone.proofs.LevelSteps.{black-level, lit-level}
+use Rattle.tone.proofs.level.level.Statement.{statement}
+use Rattle.tone.proofs.level.level.Tie as tie
+
+product : (d m : ℕ) → d ≤ 255 → m ≤ 255 → (255 ≤ 255 * (2 * d + 1) * (2 * m + 1)) × (255 * (2 * d + 1) * (2 * m + 1) ≤ 66585855)
+product d m h k = (
+  mul-le-mul {n₁ = 255} {m₁ = 1} (omega arith) (omega arith),
+  mul-le-mul {n₂ = 130305} {m₂ = 511} (omega arith) (omega arith),
+)
+
+mul-scaled-level-4 : tie.Need-mul-scaled-level-4
+mul-scaled-level-4 c =
+    omega (arith, product (c .before .before .before .before .args .display .mantissa) (c .before .before .channel .given .0 .1 .0) (omega arith) (omega arith))
+
+scaled-level-requires : tie.Need-scaled-level-requires
+scaled-level-requires c κs =
+    let x = c .before .before .before .before .before .before .before .args in
+    omega (arith, product (x .display .mantissa) (c .before .before .before .before .before .channel .given .0 .1 .0) (omega arith) (omega arith))
+
+pub level-spec : {M : Type 1} → statement M
+level-spec =
+    tie.close
+    (tie.spec (λ c. search needs) (λ c. search needs) (λ c. search needs) (λ c. search needs) (λ c. search needs) (λ c. search needs)
+    (λ c. search needs) (λ c. search needs) (λ c. search needs) mul-scaled-level-4 (λ c. search needs) (λ c. search needs)
+    (λ c. search needs) (λ c. search needs) (λ c. search needs) (λ c. search needs) (λ c. search needs) (λ c. search needs)
+    scaled-level-requires
+    (λ c. black-level _ _ _ (c .enum-told .given .1))
+    (λ c. c .scaled-level .ensures ∙ lit-level _ _ _ _ _ (c .before .before .before .before .before .before .channel .given .1)))

@@ -1,0 +1,109 @@
+// Steps 4 to 6: scaled luminance, display luminance, level.
+ghost use mathlib.Core.Path.{_≡_};
+ghost use Prim.Native.Nat.{_*_, _^_, _≤_, _<_, min};
+ghost use Rattle.number.proofs.Laws.{_over_, unit, storedOf};
+ghost use Rattle.tone.specs.Fractions.{nearest};
+ghost use Rattle.tone.specs.Levels.{IsKey, IsStoredAverage, scaledOf, IsScaled, reinhard, displayOf, levelOf};
+ghost use Rattle.tone.specs.Pixels.{IsLuminance};
+use crate::ratio::stored_ratio;
+use number::channel::Channel;
+use number::ratio::Stored;
+
+// Step 4: the key's share of luminance over average.
+pub fn scaled_luminance(key: u64, luminance: Stored, average: Stored) -> Stored
+    requires { ⌜ IsKey key × IsLuminance luminance × IsStoredAverage average ⌝ }
+    ensures { λ r. ⌜ r ≡ scaledOf key luminance average ⌝ }
+{
+    stored_ratio(
+        key * (2 * (luminance.mantissa as u64) + 1),
+        1000 * (2 * (average.mantissa as u64) + 1),
+        137 + luminance.exponent as u16 - average.exponent as u16,
+    )
+}
+
+// v * 2^s.
+fn shift_left(v: u64, s: u64) -> u64
+    requires { ⌜ (s < 64) × (v * 2 ^ s < 2 ^ 64) ⌝ }
+    ensures { λ r. ⌜ r ≡ v * 2 ^ s ⌝ }
+{
+    v << s
+}
+
+// The exponent of 1 in units of 2^-137.
+const ONE: u64 = 137;
+
+// L / (1 + L) of L = value * 2^exponent units, divided in 64-bit numbers.
+fn divided(value: u64, exponent: u64) -> Stored
+    requires { ⌜ (257 ≤ value) × (value ≤ 511) × (74 ≤ exponent) × (exponent ≤ 191) ⌝ }
+    ensures { λ r. ⌜ r ≡ storedOf (reinhard (value * 2 ^ exponent over unit)) ⌝ }
+{
+    if exponent <= ONE {
+        let one = shift_left(1, ONE - exponent);
+        return stored_ratio(value, one + value, 137);
+    }
+    let whole = shift_left(value, exponent - ONE);
+    stored_ratio(whole, 1 + whole, 137)
+}
+
+// The exponents of scaled luminances that are divided. Below, 1 + L stands for 1, and above, for L.
+const LEAST_DIVIDED: u8 = 74;
+
+const GREATEST_DIVIDED: u8 = 191;
+
+// Step 5: L / (1 + L).
+pub fn display_luminance(scaled: Stored) -> Stored
+    requires { ⌜ IsScaled scaled ⌝ }
+    ensures { λ r. ⌜ r ≡ displayOf reinhard scaled ⌝ }
+{
+    if scaled.exponent < LEAST_DIVIDED {
+        return scaled;
+    }
+    if GREATEST_DIVIDED < scaled.exponent {
+        return Stored {
+            exponent: 128,
+            mantissa: 255,
+        };
+    }
+    divided(2 * (scaled.mantissa as u64) + 1, scaled.exponent as u64)
+}
+
+// num / den to the nearest whole number, halves up, at most 255.
+fn nearest_level(num: u64, den: u64) -> u8
+    requires { ⌜ (num < 2 ^ 62) × (0 < den) × (den < 2 ^ 62) ⌝ }
+    ensures { λ r. ⌜ r ≡ min 255 (nearest (num over den)) ⌝ }
+{
+    let level = (2 * num + den) / (2 * den);
+    if level < 255 { level as u8 } else { 255 }
+}
+
+// num * 2^up / (den * 2^down), likewise. Nine places are enough to reach 255, and 27 to reach 0.
+fn scaled_level(num: u64, up: u64, den: u64, down: u64) -> u8
+    requires { ⌜ (255 ≤ num) × (num < 2 ^ 26) × (1 ≤ den) × (den ≤ 511) × (up ≤ 510) × (down ≤ 392) ⌝ }
+    ensures { λ r. ⌜ r ≡ min 255 (nearest (num * 2 ^ up over den * 2 ^ down)) ⌝ }
+{
+    if down + 9 <= up {
+        return 255;
+    }
+    if up + 27 <= down {
+        return 0;
+    }
+    if down <= up {
+        return nearest_level(shift_left(num, up - down), den);
+    }
+    nearest_level(num, shift_left(den, down - up))
+}
+
+// Step 6: the level of a channel, from display luminance and luminance.
+pub fn level(display: Stored, channel: Channel, luminance: Stored) -> u8
+    ensures { λ r. ⌜ r ≡ levelOf display channel luminance ⌝ }
+{
+    match channel {
+        Channel::Black => 0,
+        Channel::Lit(exponent, mantissa) => scaled_level(
+            255 * (2 * (display.mantissa as u64) + 1) * (2 * (mantissa as u64) + 1),
+            display.exponent as u64 + exponent as u64,
+            2 * (luminance.mantissa as u64) + 1,
+            luminance.exponent as u64 + ONE,
+        ),
+    }
+}
