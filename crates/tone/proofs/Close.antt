@@ -1,14 +1,7 @@
 -- Fractions that differ by at most n roundings, each a factor of 256/255: a distance that adds up. Assumes nothing.
 use Prim.Native.Nat.{ℕ, _+_, _*_, _^_, _≤_, _<_}
 use native.Mathlib.Omega.{arith}
-use native.Mathlib.Nat.{
-  add-comm,
-  le-of-mul-le-mul-left,
-  lt-of-mul-lt-mul-left,
-  lt-of-mul-lt-mul-right,
-  mul-le-mul,
-  mul-le-mul-left,
-}
+use native.Mathlib.Nat.{le-of-mul-le-mul-left, lt-of-mul-lt-mul-left, lt-of-mul-lt-mul-right, mul-le-mul, mul-le-mul-left}
 use lib.Pow.{pow-add}
 use Rattle.number.proofs.Laws.{Frac, Positive, Near}
 use Rattle.tone.specs.Fractions.{_·_}

@@ -1,32 +1,11 @@
 -- Step 5: the display luminance of v · 2^e units, v = 2M + 1. Assumes nothing.
 use mathlib.Core.Path.{_≡_, refl, sym, ap, ap₂, _∙_, subst}
 use Prim.Native.Nat.{ℕ, _+_, _-_, _*_, _^_, _≤_, _<_}
-use native.Mathlib.Nat.{le-refl, le-trans, lt-of-le-of-lt, mul-assoc, mul-le-mul, mul-le-mul-left, mul-le-mul-right, mul-lt-mul-of-pos-right, mul-pos}
+use native.Mathlib.Nat.{le-refl, le-trans, lt-of-le-of-lt, mul-assoc, mul-le-mul, mul-le-mul-left, mul-le-mul-right, mul-lt-mul-of-pos-right}
 use native.Mathlib.Omega.{arith}
 use lib.Dec.{lit<, lit≤}
 use lib.Pow.{pow-add, pow-mono, pow-pos}
-use Rattle.number.proofs.Laws.{
-  Frac,
-  _over_,
-  twoToMinus,
-  Equal,
-  Below,
-  Normalised,
-  IsMantissa,
-  Stores,
-  unit,
-  worth,
-  storedOf,
-  unit-pos,
-  unit-power,
-  cell,
-  fits-between,
-  ratio-above,
-  ratio-at-most,
-  rescale,
-  stored,
-  stored-as,
-}
+use Rattle.number.proofs.Laws.{Frac, _over_, Equal, Normalised, IsMantissa, unit, storedOf, unit-pos, unit-power, cell, fits-between, ratio-above, ratio-at-most, rescale, stored, stored-as}
 use Rattle.number.specs.declared.ratio.Stored.{Stored}
 use Rattle.tone.specs.Levels.{IsScaled, reinhard, displayOf}
 use Rattle.tone.specs.Pixels.{worthIn}
@@ -63,8 +42,10 @@ display-stores l s =
 pub dark : (l : Stored) → l .exponent < 74 → IsMantissa (l .mantissa) → l ≡ displayOf reinhard l
 dark l h m =
     sym (stored-as
-    (record { normalised = shut (λ (u : ℕ). Normalised (v * 2 ^ E * 2 ^ 128) ((u + v * 2 ^ E) * 2 ^ E) M)
-        (shown (2 ^ E) (2 ^ 113) (pow-mono {i = E} {j = 113} (omega arith)) (pow-pos E)) })
+    (record {
+      normalised = shut (λ (u : ℕ). Normalised (v * 2 ^ E * 2 ^ 128) ((u + v * 2 ^ E) * 2 ^ E) M)
+          (shown (2 ^ E) (2 ^ 113) (pow-mono {i = E} {j = 113} (omega arith)) (pow-pos E));
+    })
     (record { cross = refl }) (share-pos v E))
   where
     E : ℕ
@@ -93,8 +74,10 @@ dark l h m =
 pub bright : (l : Stored) → 191 < l .exponent → IsMantissa (l .mantissa) → record { exponent = 128; mantissa = 255 } ≡ displayOf reinhard l
 bright l h m =
     sym (stored-as
-    (rescale {i = 0} {j = 0} (record { normalised = shut (λ (u : ℕ). Normalised (w * 1) ((u + w) * 1) 255)
-        (white (2 ^ 137) w (pow-pos 137) (le-trans (lit≤ tt) (mul-le-mul {n₁ = 257} (omega (arith, m .least)) (pow-mono h)))) })
+    (rescale {i = 0} {j = 0} (record {
+      normalised = shut (λ (u : ℕ). Normalised (w * 1) ((u + w) * 1) 255)
+          (white (2 ^ 137) w (pow-pos 137) (le-trans (lit≤ tt) (mul-le-mul {n₁ = 257} (omega (arith, m .least)) (pow-mono h))));
+    })
     (omega arith)) (record { cross = refl }) (share-pos _ _))
   where
     w : ℕ

@@ -1,7 +1,6 @@
 -- Demand 3, second half: a level lies within 5/2 of the exact value, for every curve that never stretches a ratio. Of storing it uses only
 -- that what is stored is near. Assumes nothing.
-use mathlib.Core.Path.{_≡_}
-use Prim.Native.Nat.{ℕ, _+_, _*_, _^_, _≤_, _<_}
+use Prim.Native.Nat.{ℕ, _+_, _*_, _^_, _<_}
 use native.Mathlib.Omega.{arith}
 use native.Mathlib.Nat.{add-comm, mul-le-mul-left, mul-pos}
 use lib.Pow.{pow-pos}

@@ -1,28 +1,15 @@
 -- Step 6: levels of num · 2^up / (den · 2^down), and the level of a channel as one. Assumes nothing.
-use mathlib.Core.Path.{_≡_, refl, sym, ap, ap₂, _∙_, subst}
-use Prim.Native.Nat.{ℕ, _+_, _-_, _*_, _/_, _^_, _≤_, _<_, min}
-use native.Mathlib.Nat.{
-  add-comm,
-  div-eq-of-lt,
-  le-div-iff-mul-le,
-  le-of-eq,
-  le-trans,
-  min-eq-left,
-  mul-le-mul,
-  mul-le-mul-left,
-  mul-le-mul-right,
-  mul-pos,
-  sub-add-cancel,
-}
+use mathlib.Core.Path.{_≡_, sym, ap, _∙_, subst}
+use Prim.Native.Nat.{ℕ, _+_, _-_, _*_, _^_, _≤_, _<_, min}
+use native.Mathlib.Nat.{div-eq-of-lt, le-div-iff-mul-le, le-of-eq, le-trans, min-eq-left, mul-le-mul-right, mul-pos, sub-add-cancel}
 use native.Mathlib.Omega.{arith}
 use lib.Pow.{pow-add, pow-mono, pow-pos}
-use Rattle.number.proofs.Laws.{Frac, _over_, Equal, unit, unit-pos, unit-power}
+use Rattle.number.proofs.Laws.{Frac, _over_, unit, unit-pos, unit-power}
 use Rattle.number.specs.declared.channel.Channel.{Channel}
 use Rattle.number.specs.declared.channel.Channel.the-variants.{Black, Lit}
 use Rattle.number.specs.declared.ratio.Stored.{Stored}
-use Rattle.tone.specs.Fractions.{_·_, _÷_, _•_, nearest}
+use Rattle.tone.specs.Fractions.{nearest}
 use Rattle.tone.specs.Levels.{levelOf}
-use Rattle.tone.specs.Pixels.{worthIn}
 use Rattle.tone.proofs.Rounding.{nearest-equal}
 
 powers : (a b : ℕ) → b ≤ a → 2 ^ (a - b) * 2 ^ b ≡ 2 ^ a

@@ -4,7 +4,7 @@ pub mod Rounding
 pub mod LevelBounds
 pub mod Sticky
 pub mod Storables
-pub mod Sums
+pub mod CutSums
 pub mod Luminances
 pub mod Scaled
 pub mod Displays

@@ -2,7 +2,6 @@
 use mathlib.Core.Path.{_≡_}
 use Prim.Native.Nat.{ℕ, _*_, _^_}
 use Rattle.number.proofs.Laws.{Frac, _over_, unit, storedOf, ratioOf}
-use Rattle.number.specs.declared.ratio.Stored.{Stored}
 use Rattle.number.specs.declared.ratio.StoredRatio.the-variants.{InRange}
 
 -- num / den · 2^exp units

@@ -1,6 +1,6 @@
 -- The tally of a list of lit pixels' luminances: their count and the sum of their steps. Assumes nothing.
 use mathlib.Core.List.{List, [], _∷_}
-use Prim.Native.Nat.{ℕ, _+_}
+use Prim.Native.Nat.{_+_}
 use lib.IntN.{ℤ, pos, _+ℤ_}
 use lib.ListN.{length}
 use Rattle.number.specs.declared.ratio.Stored.{Stored}

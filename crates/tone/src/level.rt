@@ -67,6 +67,14 @@ pub fn display_luminance(scaled: Stored) -> Stored
     divided(2 * (scaled.mantissa as u64) + 1, scaled.exponent as u64)
 }
 
+// Steps 4 and 5: the display luminance of a pixel's luminance under a key and an average.
+pub fn display(key: u64, luminance: Stored, average: Stored) -> Stored
+    requires { ⌜ IsKey key × IsLuminance luminance × IsStoredAverage average ⌝ }
+    ensures { λ r. ⌜ r ≡ displayOf reinhard (scaledOf key luminance average) ⌝ }
+{
+    display_luminance(scaled_luminance(key, luminance, average))
+}
+
 // num / den to the nearest whole number, halves up, at most 255.
 fn nearest_level(num: u64, den: u64) -> u8
     requires { ⌜ (num < 2 ^ 62) × (0 < den) × (den < 2 ^ 62) ⌝ }

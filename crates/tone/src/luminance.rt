@@ -1,6 +1,6 @@
 // Step 1: the luminance of a pixel. Its channels lie up to 112 binary places apart, and the smallest can decide the exponent.
 ghost use mathlib.Core.Path.{_≡_};
-ghost use Prim.Native.Nat.{ℕ, _+_, _-_, _*_, _/_, _%_, _^_, _≤_, _<_, min};
+ghost use Prim.Native.Nat.{_+_, _-_, _*_, _/_, _%_, _^_, _≤_, _<_, min};
 ghost use lib.Dec.{eqb};
 ghost use Rattle.number.proofs.Laws.{_over_, unit, IsChannel, worthOf, storedOf};
 ghost use Rattle.tone.specs.Pixels.{IsPixel, isBlack, luminanceOf};

@@ -16,12 +16,14 @@ product d m h k = (
 
 mul-scaled-level-4 : tie.Need-mul-scaled-level-4
 mul-scaled-level-4 c =
-    omega (arith, product (c .before .before .before .before .args .display .mantissa) (c .before .before .channel .given .0 .1 .0) (omega arith) (omega arith))
+    let x = c .before .before .before .before .args in
+    omega (arith, product (x .display .mantissa) (c .before .before .channel .given .0 .1 .0) (omega arith) (omega arith))
 
 scaled-level-requires : tie.Need-scaled-level-requires
 scaled-level-requires c κs =
     let x = c .before .before .before .before .before .before .before .args in
-    omega (arith, product (x .display .mantissa) (c .before .before .before .before .before .channel .given .0 .1 .0) (omega arith) (omega arith))
+    let m = c .before .before .before .before .before .channel .given .0 .1 .0 in
+    omega (arith, product (x .display .mantissa) m (omega arith) (omega arith))
 
 pub level-spec : {M : Type 1} → statement M
 level-spec =

@@ -1,10 +1,9 @@
 -- `tone::level::scaled_level` meets its contract. Assumes nothing.
 use mathlib.Core.Path.{_∙_}
 use Prim.Native.Nat.{ℕ, _-_, _*_, _^_, _≤_, _<_}
-use native.Mathlib.Nat.{lt-of-le-of-lt, mul-le-mul, mul-pos}
+use native.Mathlib.Nat.{mul-le-mul, mul-pos}
 use native.Mathlib.Omega.{arith}
 use borrow.Author.Needs.{needs}
-use lib.Dec.{lit<}
 use lib.Pow.{pow-mono, pow-pos}
 use Rattle.tone.proofs.LevelSteps.{full, dark, raised, lowered}
 use Rattle.tone.proofs.level.scaled_level.Statement.{statement}
@@ -14,6 +13,13 @@ use Rattle.tone.proofs.level.scaled_level.Tie as tie
 small : (v s : ℕ) → v ≤ 2 ^ 26 → s ≤ 26 → v * 2 ^ s ≤ 2 ^ 52
 small v s h k = mul-le-mul {n₂ = 2 ^ 26} h (pow-mono {j = 26} k)
 
+-- at most 26 places up, and down
+up : (c : tie.Then3) → let x = c .before .before .before .args in x .num * 2 ^ (x .up - x .down) ≤ 2 ^ 52
+up c = small _ _ (omega arith) (omega arith)
+
+down : (c : tie.Else3) → let x = c .before .before .before .args in (0 < x .den * 2 ^ (x .down - x .up)) × (x .den * 2 ^ (x .down - x .up) ≤ 2 ^ 52)
+down c = (mul-pos (omega arith) (pow-pos _), small _ _ (omega arith) (omega arith))
+
 pub scaled-level-spec : {M : Type 1} → statement M
 scaled-level-spec =
     tie.close
@@ -22,10 +28,10 @@ scaled-level-spec =
     (λ c. full _ _ _ _ (omega arith) (omega arith) (c .if1 .taken))
     (λ c. search needs)
     (λ c. dark _ _ _ _ (omega arith) (omega arith) (c .if2 .taken))
-    (λ c κs. let x = c .before .before .before .args in (omega arith, omega (arith, small (x .num) (x .up - x .down) (omega arith) (omega arith))))
-    (λ c κs. let x = c .before .before .before .before .args in omega (arith, small (x .num) (x .up - x .down) (omega arith) (omega arith)))
+    (λ c κs. omega (arith, up c))
+    (λ c κs. omega (arith, up (c .before)))
     (λ c. c .nearest-level .ensures ∙ raised _ _ _ _ (omega arith) (omega arith) _ (omega arith) (c .before .shift-left .ensures))
     (λ c. search needs)
-    (λ c κs. let x = c .before .before .before .args in (omega arith, omega (arith, small (x .den) (x .down - x .up) (omega arith) (omega arith))))
-    (λ c κs. let x = c .before .before .before .before .args in omega (arith, mul-pos {m = x .den} (omega arith) (pow-pos (x .down - x .up)), small (x .den) (x .down - x .up) (omega arith) (omega arith)))
+    (λ c κs. omega (arith, down c))
+    (λ c κs. omega (arith, down (c .before)))
     (λ c. c .nearest-level2 .ensures ∙ lowered _ _ _ _ (omega arith) (omega arith) _ (omega arith) (c .before .shift-left2 .ensures)))

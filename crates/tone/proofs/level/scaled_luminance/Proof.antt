@@ -7,13 +7,17 @@ use Rattle.tone.proofs.level.scaled_luminance.Statement.{statement}
 use Rattle.tone.proofs.level.scaled_luminance.Tie as tie
 
 mul-stored-ratio-2 : tie.Need-mul-stored-ratio-2
-mul-stored-ratio-2 c = let x = c .before .args in let p = c .before .pre in omega (arith, scaled-num (x .key) (x .luminance) (x .average) (p .0) (p .1) (p .2) .1)
+mul-stored-ratio-2 c =
+    let x = c .before .args in let p = c .before .pre in
+    omega (arith, scaled-num (x .key) (x .luminance) (x .average) (p .0) (p .1) (p .2) .1)
 
 stored-ratio-requires : tie.Need-stored-ratio-requires
-stored-ratio-requires c κs = let p = c .before .before .before .before .pre in scaled-storable _ _ _ (p .0) (p .1) (p .2)
+stored-ratio-requires c κs =
+    let p = c .before .before .before .before .pre in scaled-storable _ _ _ (p .0) (p .1) (p .2)
 
 returns : tie.Need-returns
-returns c = let p = c .before .before .before .before .before .pre in c .stored-ratio .ensures ∙ scaled-stored _ _ _ (p .0) (p .1) (p .2)
+returns c =
+    let p = c .before .before .before .before .before .pre in c .stored-ratio .ensures ∙ scaled-stored _ _ _ (p .0) (p .1) (p .2)
 
 pub scaled-luminance-spec : {M : Type 1} → statement M
 scaled-luminance-spec =

@@ -23,7 +23,6 @@ module _ (t k : ℕ) (h : t < 2 ^ 63) where
       (mod-eq-of-lt (lt-of-le-of-lt (div-mul-le-self t (2 ^ k)) (lt-of-lt-of-le h (lit≤ tt))))
       ∙ div-add-mod' t (2 ^ k)
 
-
 small : (c : tie.Start) → c .args .t / 2 ^ c .args .k < 2 ^ 63
 small c = lt-of-le-of-lt (shr-le (c .args .t) (c .args .k)) (c .pre)
 

@@ -1,6 +1,6 @@
 -- `tone::luminance::store_ordered` meets its contract: the sum is the same in each order. Assumes nothing.
 use mathlib.Core.Path.{_≡_, ap, _∙_}
-use Prim.Native.Nat.{ℕ, _+_, _*_}
+use Prim.Native.Nat.{ℕ, _*_}
 use native.Mathlib.Omega.{arith}
 use borrow.Author.Needs.{needs}
 use Rattle.number.proofs.Laws.{_over_, unit, storedOf}

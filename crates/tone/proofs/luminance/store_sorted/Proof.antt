@@ -5,17 +5,20 @@ use native.Mathlib.Omega.{arith}
 use borrow.Author.Needs.{needs}
 use Rattle.tone.specs.Ratios.{unitRatio, Storable}
 use Rattle.tone.proofs.Sticky.{jamOf}
-use Rattle.tone.proofs.Sums.{cut-storable, sorted-stored}
+use Rattle.tone.proofs.CutSums.{cut-storable, sorted-stored}
 use Rattle.tone.proofs.luminance.store_sorted.Statement.{statement}
 use Rattle.tone.proofs.luminance.store_sorted.Tie as tie
 
-storable : (c : tie.After-struct-known6) → Storable (unitRatio (c .before .add-term2 .result) 200 (c .before .before .before .before .before .before .before .before .args .a .exponent - 24))
+abbrev start : tie.After-struct-known6 → tie.Start
+start c = c .before .before .before .before .before .before .before .before
+
+storable : (c : tie.After-struct-known6) → Storable (unitRatio (c .before .add-term2 .result) 200 (start c .args .a .exponent - 24))
 storable c = cut-storable _ _ (omega arith) (omega arith)
 
 returns : tie.Need-returns
 unfolding jamOf
 returns c =
-    let x = c .before .before .before .before .before .before .before .before .before .args in
+    let x = start (c .before) .args in
     c .stored-ratio .ensures
     ∙ sorted-stored (x .a .value) (x .b .value) (x .c .value) (x .a .exponent) (x .b .exponent) (x .c .exponent) _ _
     (c .before .before .before .before .before .add-term .ensures .0) (c .before .before .add-term2 .ensures .0)

@@ -34,9 +34,10 @@ unfolding Weighed
 lit x w e m q valid l =
     let h : IsLit e m = subst IsChannel q valid in
     let p = product w m l (h .mantissa .most) in
-    rw q
-    (mul-assoc w (2 * m + 1) (2 ^ e),
-    ((p .1, h .most, omega (arith, h .most)), (sym (ne-eqb e 0 (λ z. omega (arith, h .least))), omega (arith, h .least))))
+    rw q (
+      mul-assoc w (2 * m + 1) (2 ^ e),
+      ((p .1, h .most, omega (arith, h .most)), (sym (ne-eqb e 0 (λ z. omega (arith, h .least))), omega (arith, h .least))),
+    )
 
 returns : tie.Need-returns
 unfolding Weighed

@@ -1,9 +1,6 @@
 use borrow.Author.Needs.{needs}
 use Rattle.tone.proofs.ratio.stored_ratio.Statement.{statement}
 use Rattle.tone.proofs.ratio.stored_ratio.Tie as tie
-use Rattle.tone.proofs.ratio.stored_ratio.Reads as reads
-use Rattle.tone.proofs.ratio.stored_ratio.Lts as lts
-use Rattle.number.proofs.ratio.store_ratio.Reads as store-ratio-reads
 
 -- src/ratio.rt:14:9
 store-ratio-requires : tie.Need-store-ratio-requires

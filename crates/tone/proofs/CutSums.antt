@@ -1,29 +1,11 @@
 -- A hundredth of a sum of three terms v · 2^e in units, by its cut sum with 24 places below the largest exponent. Assumes nothing.
 use mathlib.Core.Path.{_≡_, refl, sym, ap, _∙_, subst}
-use Prim.Native.Nat.{ℕ, _+_, _-_, _*_, _/_, _^_, _≤_, _<_}
+use Prim.Native.Nat.{ℕ, _+_, _-_, _*_, _/_, _^_, _≤_}
 use native.Mathlib.Nat.{le-div-iff-mul-le, mul-le-mul-right, mul-pos}
 use native.Mathlib.Omega.{arith}
 use lib.Dec.{lit<}
 use lib.Pow.{pow-pos}
-use Rattle.number.proofs.Laws.{
-  Frac,
-  _over_,
-  Scales,
-  Stores,
-  unit,
-  storedOf,
-  unit-pos,
-  unit-power,
-  fits-between,
-  in-range,
-  powers-into,
-  powers-out,
-  ratio-above,
-  ratio-at-most,
-  rescale,
-  scales-equal,
-  stored-as,
-}
+use Rattle.number.proofs.Laws.{_over_, Stores, unit, storedOf, unit-pos, unit-power, fits-between, in-range, powers-into, powers-out, ratio-above, ratio-at-most, rescale, scales-equal, stored-as}
 use Rattle.tone.specs.Ratios.{unitRatio, Storable}
 use Rattle.tone.proofs.Sticky.{jamOf, jam-multiple, jam-scales, jam-term}
 
