@@ -1,4 +1,6 @@
 // The tone steps: the luminance of a pixel, the average of a page, the level of a channel.
 pub mod average;
+mod floor;
 pub mod luminance;
+pub mod tables;
 pub mod tally;
