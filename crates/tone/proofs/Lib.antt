@@ -4,3 +4,7 @@ pub mod Entries
 pub mod Differences
 pub mod Signed
 pub mod Division
+pub mod Spread
+pub mod Sums
+pub mod Averages
+pub mod Mean
