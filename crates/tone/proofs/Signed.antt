@@ -1,12 +1,12 @@
 -- Signed numbers as 64 bits hold them: what a test against 0, a sum and a cast say of numbers that fit. Assumes nothing.
 use mathlib.Core.Path.{_≡_, refl, ap, _∙_}
 use mathlib.Core.Bool.{true, false}
-use Prim.Native.Nat.{ℕ, zero, suc, _+_, _^_, _<_}
+use Prim.Native.Nat.{ℕ, zero, suc, _+_, _^_, _≤_, _<_}
 use native.Mathlib.Nat.{zero-add, not-suc-le-zero}
 use native.Mathlib.Omega.{arith}
 use lib.IntN.{ℤ, pos, negsuc, subℕ, natAbs, _+ℤ_, _-ℤ_}
-use lib.Signed.{mag, ltZ, nonNeg}
-use lib.Dec.{T}
+use lib.Signed.{mag, ltZ, nonNeg, _≤ℤ_}
+use lib.Dec.{T, leb→le}
 use borrow.Author.Tests.{ltb-true}
 use mir.Syntax.{w64}
 use mir.Val.{Fits, SFits, toZ, ofZ}
@@ -60,3 +60,8 @@ module _ (z : ℤ) (fits : SFits w64 z) where
 
   pub cast-is : (a : ℕ) → z ≡ pos a → natAbs (toZ w64 (ofZ w64 z)) ≡ a
   cast-is a e = ap natAbs (toZ-ofZ fits ∙ e)
+
+-- a number from 0 to m
+pub natural : (m : ℕ) (z : ℤ) → pos 0 ≤ℤ z → z ≤ℤ pos m → (z ≡ pos (natAbs z)) × (natAbs z ≤ m)
+natural m (pos a) l h = (refl, leb→le a m (h .le))
+natural m (negsuc a) l h = absurd (l .le)

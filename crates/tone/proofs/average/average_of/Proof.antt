@@ -1,26 +1,31 @@
-use borrow.Author.Needs.{needs}
+-- `tone::average::average_of` meets its contract. Assumes nothing.
+use mathlib.Core.Path.{_≡_, _∙_, ap}
+use mir.Syntax.{w64}
+use mir.Val.{toZ, ofZ}
+use mir.Facts.{toZ-ofZ}
+use borrow.Author.Needs.{needs, sfits-of}
+use borrow.Author.Tests.{ne-eqb}
+use Rattle.tone.specs.Averages.{floorDiv, averageOf}
+use Rattle.tone.proofs.Averages.{average-in-range}
 use Rattle.tone.proofs.average.average_of.Statement.{statement}
 use Rattle.tone.proofs.average.average_of.Tie as tie
-use Rattle.tone.proofs.average.average_of.Reads as reads
-use Rattle.tone.proofs.average.average_of.Lts as lts
-use Rattle.tone.proofs.average.stored_average.Reads as stored-average-reads
-use Rattle.tone.proofs.floor.floor_div.Reads as floor-div-reads
 
--- src/average.rt:50:9
+got : (c : tie.After-floor-div) → let a = c .before .before .args in
+    toZ w64 (ofZ w64 (c .floor-div .result)) ≡ floorDiv (a .sum) (a .count)
+got c =
+    let s = c .before .before in
+    toZ-ofZ (sfits-of (c .floor-div .ok)) ∙ c .floor-div .ensures ∙ ap (λ z. floorDiv z (s .args .count)) (toZ-ofZ (s .fits .sum))
+
 returns : tie.Need-returns
-returns c = ?
+unfolding averageOf
+returns c = rw (c .if1 .taken)
 
--- src/average.rt:52:9
-floor-div-requires : tie.Need-floor-div-requires
-floor-div-requires c κs = search needs
-
--- src/average.rt:53:29
 stored-average-requires : tie.Need-stored-average-requires
-stored-average-requires c κs = ?
+stored-average-requires c κs = rw (got c) (average-in-range (search needs) (c .before .before .pre))
 
--- src/average.rt:45:1
 returns-2 : tie.Need-returns-2
-returns-2 c = ?
+unfolding averageOf
+returns-2 c = rw (ne-eqb _ 0 (c .before .before .if1 .left), c .stored-average .ensures, got (c .before))
 
 pub average-of-spec : {M : Type 1} → statement M
-average-of-spec = tie.close (tie.spec returns floor-div-requires stored-average-requires returns-2)
+average-of-spec = tie.close (tie.spec returns (λ c κs. search needs) stored-average-requires returns-2)

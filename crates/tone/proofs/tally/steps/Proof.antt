@@ -1,65 +1,39 @@
-use borrow.Author.Needs.{needs}
+-- `tone::tally::steps` meets its contract. Assumes nothing.
+use mathlib.Core.Path.{_≡_, _∙_, ap}
+use Prim.Native.Nat.{ℕ, _+_, _-_, _*_, _^_, _<_}
+use native.Mathlib.Nat.{add-sub-of-le}
+use native.Mathlib.Omega.{arith}
+use lib.Dec.{lit<}
+use lib.ListN.{getD}
+use mir.Facts.{toZ-ofZ}
+use borrow.Author.Needs.{needs, sfits-of}
+use Rattle.tone.specs.Tables.{logOf}
+use Rattle.tone.proofs.Rules.{log-le}
+use Rattle.tone.proofs.Signed.{held, sub-fits}
+use Rattle.tone.proofs.Sums.{raisedSteps}
 use Rattle.tone.proofs.tally.steps.Statement.{statement}
 use Rattle.tone.proofs.tally.steps.Tie as tie
-use Rattle.tone.proofs.tally.steps.Reads as reads
-use Rattle.tone.proofs.tally.steps.Lts as lts
 
--- src/tally.rt:21:21
-sub-log : tie.Need-sub-log
-sub-log c = search needs
+-- the entry that is read
+got : (c : tie.After-struct-known2) → let a = c .before .before .before .args in
+    getD (a .logs .now) (a .luminance .mantissa - 128) 0 ≡ logOf (a .luminance .mantissa)
+got c =
+    let p = c .before .before .before .pre in
+    let M = c .before .before .before .args .luminance .mantissa in
+    p .0 .entry (M - 128) (omega arith) ∙ ap logOf (add-sub-of-le (p .1 .mantissa .least))
 
--- src/tally.rt:21:20
-cast-log : tie.Need-cast-log
-cast-log c = search needs
+small : (c : tie.After-struct-known2) → raisedSteps (c .before .before .before .args .luminance) < 2 ^ 63
+small c = omega (arith, log-le (c .before .before .before .args .luminance .mantissa))
 
--- src/tally.rt:21:15
-mul-log : tie.Need-mul-log
-mul-log c = search needs
-
--- src/tally.rt:21:15
-element-copy-out-log : tie.Need-element-copy-out-log
-element-copy-out-log c = search needs
-
--- src/tally.rt:22:13
-cast-result : tie.Need-cast-result
-cast-result c = search needs
-
--- src/tally.rt:22:6
-mul-result : tie.Need-mul-result
-mul-result c = search needs
-
--- src/tally.rt:22:42
-cast-result-2 : tie.Need-cast-result-2
-cast-result-2 c = ?
-
--- src/tally.rt:22:6
-add-result : tie.Need-add-result
-add-result c = ?
-
--- src/tally.rt:22:5
-cast-result-3 : tie.Need-cast-result-3
-cast-result-3 c = ?
-
--- src/tally.rt:22:5
 sub-result : tie.Need-sub-result
-sub-result c = ?
+sub-result c = rw (got c, held _ (small c)) (sub-fits _ 34816 (small c) (lit< tt))
 
--- src/tally.rt:17:1
 returns : tie.Need-returns
-returns c = ?
+returns c = toZ-ofZ (sub-result c) ∙ rw (got c, held _ (small c))
 
 pub steps-spec : {M : Type 1} → statement M
 steps-spec =
     tie.close
-    (tie.spec
-    sub-log
-    cast-log
-    mul-log
-    element-copy-out-log
-    cast-result
-    mul-result
-    cast-result-2
-    add-result
-    cast-result-3
-    sub-result
-    returns)
+    (tie.spec (λ c. search needs) (λ c. search needs) (λ c. search needs) (λ c. search needs) (λ c. search needs) (λ c. search needs)
+    (λ c. rw (got c) (record { fits = omega (arith, small c) })) (λ c. rw (got c) (record { fits = omega (arith, small c) }))
+    (λ c. rw (got c) (sfits-of (small c))) sub-result returns)
