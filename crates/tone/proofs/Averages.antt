@@ -1,14 +1,13 @@
 -- The range of an average in steps and that of the stored average. Assumes nothing.
 use mathlib.Core.Path.{_≡_, refl, ap, _∙_}
 use mathlib.Core.Bool.{Bool, true, false, cond}
-use Prim.Native.Nat.{ℕ, _+_, _-_, _*_, _/_, _%_, _≤_, _<_, zero-le}
-use native.Mathlib.Nat.{div-lt-iff-lt-mul, le-of-suc-le-suc}
+use Prim.Native.Nat.{ℕ, _+_, _-_, _/_, _%_, _≤_, _<_, zero-le}
+use native.Mathlib.Nat.{div-lt-iff-lt-mul}
 use native.Mathlib.Omega.{arith}
 use lib.Dec.{eqb, le→leb, lit<}
 use lib.IntN.{ℤ, pos, subℕ, natAbs, _+ℤ_}
 use lib.Signed.{_≤ℤ_, leZ-yes}
 use borrow.Author.Tests.{eqb-true}
-use Rattle.number.specs.declared.ratio.Stored.{Stored}
 use Rattle.tone.specs.Averages.{floorDiv, floorMod, storedAverage, IsSum, IsAverage}
 use Rattle.tone.specs.Levels.{IsStoredAverage}
 use Rattle.tone.specs.Tables.{rootOf}
@@ -20,17 +19,18 @@ use Rattle.tone.proofs.Sums.{InSteps, sum-lowered}
 pub average-in-range : {n : ℕ} {z : ℤ} → 0 < n → IsSum n z → IsAverage (floorDiv z n)
 average-in-range {n} h s =
     let d = sum-lowered s in
-    let below : d .from / n < 29966 = div-lt-iff-lt-mul h .1 (omega (arith, d .most)) in
+    let q = d .from / n in
+    let below : q < 29966 = div-lt-iff-lt-mul h .1 (omega (arith, d .most)) in
     rw (d .is, floor-sub (d .from) 15630 n h)
-    (record { least = sub-least 15630 (d .from / n) 15630 (omega arith); most = sub-most 14335 (d .from / n) 15630 (omega arith) })
+    (record { least = sub-least 15630 q 15630 (omega arith); most = sub-most 14335 q 15630 (omega arith) })
 
--- an average as a difference of steps, and its quotient and rest by 256
-pub record Raised (A : ℤ) : Type 0 where
+-- an average as a difference, and its quotient and rest by 256
+record Raised (A : ℤ) : Type 0 where
   pub steps : ℕ
   pub is : A ≡ subℕ steps 34816
   pub range : InSteps steps
 
-pub raised : (A : ℤ) → IsAverage A → Raised A
+raised : (A : ℤ) → IsAverage A → Raised A
 raised A v =
     let d = lowered 15630 14335 A (v .least) (v .most) in
     record {

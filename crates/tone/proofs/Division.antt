@@ -1,5 +1,5 @@
--- Division rounded toward minus infinity, of a difference of natural numbers: taking c·n from a number takes c from its quotient and leaves
--- the rest. Assumes nothing.
+-- Division by n, rounded toward minus infinity: taking c·n from a number takes c from its quotient and leaves the rest.
+-- Assumes nothing.
 use mathlib.Core.Path.{_≡_, refl, ap}
 use Prim.Native.Nat.{ℕ, suc, _+_, _-_, _*_, _/_, _%_, _<_}
 use native.Mathlib.Nat.{mod-lt, div-add-mod'}

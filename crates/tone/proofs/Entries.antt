@@ -17,7 +17,7 @@ both-right true b t = t
 both-right false b t = absurd t
 
 -- each entry is what the rule says at its place, counted from i
-abbrev pub follows : (ℕ → ℕ) → ℕ → List ℕ → Bool
+abbrev follows : (ℕ → ℕ) → ℕ → List ℕ → Bool
 follows rule i [] = true
 follows rule i (x ∷ xs) = eqb x (rule i) && follows rule (suc i) xs
 
@@ -25,7 +25,8 @@ module _ (rule : ℕ → ℕ) where
   entry-from : (xs : List ℕ) (i : ℕ) → T (follows rule i xs) → (k : ℕ) → k < length xs → getD xs k 0 ≡ rule (i + k)
   entry-from [] i t k h = absurd (not-suc-le-zero h)
   entry-from (x ∷ xs) i t zero h =
-      subst (λ (m : ℕ). x ≡ rule m) (sym (add-zero i)) (eqb→eq x (rule i) (both-left (eqb x (rule i)) (follows rule (suc i) xs) t))
+      subst (λ (m : ℕ). x ≡ rule m) (sym (add-zero i))
+      (eqb→eq x (rule i) (both-left (eqb x (rule i)) (follows rule (suc i) xs) t))
   entry-from (x ∷ xs) i t (suc k) h =
       subst (λ (m : ℕ). getD xs k 0 ≡ rule m) (suc-add i k ∙ sym (add-suc i k))
       (entry-from xs (suc i) (both-right (eqb x (rule i)) (follows rule (suc i) xs) t) k (le-of-suc-le-suc h))
@@ -33,5 +34,6 @@ module _ (rule : ℕ → ℕ) where
   pub table : {size : ℕ} (xs : List ℕ) → length xs ≡ size → T (follows rule 0 xs) → IsTable size rule xs
   table xs e t =
       record {
-        entry = λ k h. subst (λ (m : ℕ). getD xs k 0 ≡ rule m) (zero-add k) (entry-from xs 0 t k (subst (λ (n : ℕ). k < n) (sym e) h));
+        entry = λ k h.
+            subst (λ (m : ℕ). getD xs k 0 ≡ rule m) (zero-add k) (entry-from xs 0 t k (subst (λ (n : ℕ). k < n) (sym e) h));
       }

@@ -1,10 +1,9 @@
 -- The greatest number up to a bound that passes a test. Assumes nothing.
 use mathlib.Core.Bool.{Bool, true, false, not, cond}
-use Prim.Native.Nat.{ℕ, zero, suc, _≤_, _<_, zero-le}
-use native.Mathlib.Nat.{le-refl, le-step, le-trans, le-of-suc-le-suc, eq-or-lt-of-le}
-use mathlib.Core.Path.{_≡_, subst}
+use Prim.Native.Nat.{ℕ, zero, suc, _≤_, zero-le}
+use native.Mathlib.Nat.{le-refl, le-step, le-of-suc-le-suc, eq-or-lt-of-le}
+use mathlib.Core.Path.{subst}
 use mathlib.Core.Logic.{⊎-elim}
-use lib.Arith.{le-zero}
 use lib.Dec.{T, T-not}
 use Rattle.tone.specs.Tables.{greatest}
 
@@ -38,5 +37,6 @@ module _ (test : ℕ → Bool) where
   reaches zero k l t = l
   reaches (suc n) k l t =
       by-test (λ x. k ≤ x) (test (suc n)) (suc n) (greatest test n) (λ _. l)
-      (λ f. ⊎-elim (λ e. absurd (T-not (test (suc n)) f (subst (λ (x : ℕ). T (test x)) e t))) (λ m. reaches n k (le-of-suc-le-suc m) t)
+      (λ f. ⊎-elim (λ e. absurd (T-not (test (suc n)) f (subst (λ (x : ℕ). T (test x)) e t)))
+      (λ m. reaches n k (le-of-suc-le-suc m) t)
       (eq-or-lt-of-le l))

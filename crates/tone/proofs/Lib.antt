@@ -1,3 +1,4 @@
+pub mod Laws
 pub mod Greatest
 pub mod Rules
 pub mod Entries

@@ -21,7 +21,7 @@ use Rattle.tone.proofs.Spread.{mul-pow, pow-mul, total, times, every-ma
 use Rattle.tone.proofs.Sums.{raisedSteps, sum-is}
 
 -- T[M] is a logarithm of M + 1/2 to within a step: 2^(s·T + l) ≤ (2M+1)^(256·s) < 2^(s·(T+1) + l)
-pub record Rounded (s l M : ℕ) : Type 0 where
+record Rounded (s l M : ℕ) : Type 0 where
   pub low : 2 ^ (s * logOf M + l) ≤ (2 * M + 1) ^ (256 * s)
   pub high : (2 * M + 1) ^ (256 * s) < 2 ^ (s * (logOf M + 1) + l)
 
@@ -60,16 +60,18 @@ module _ (s l : ℕ) (rounded : (M : ℕ) → IsMantissa M → Rounded s l M) wh
         (mul-lt-mul-of-pos-right (rounded (y .mantissa) (v .mantissa) .high) (pow-pos (y .exponent * (256 * s))))
 
   module _ (below above : ℕ) (b : l + below ≡ 256 * s) (c : above + below ≡ 2 * s) where
-    pub mean-within : (ys : List Stored) → Every IsLuminance ys → 0 < length ys
+    mean-within : (ys : List Stored) → Every IsLuminance ys → 0 < length ys
         → MeanWithin s below above (floorDiv (sumOf ys) (length ys)) ys
     mean-within ys h n = record {
       low = λ i j e. record {
-        cross = rw (numerator ys, denominator ys, pow-mul, ← pow-add 2 (s * i * N) (137 * N * (256 * s)), low-exponent i j (average i j e), pow-add)
-            (mul-le-mul-left (2 ^ ((s * j + below) * N)) (mean-low units (256 * s) raisedSteps s l ys (every-map worth-low ys h)));
+        cross =
+            rw (numerator ys, denominator ys, pow-mul, ← pow-add 2 (s * i * N), low-exponent i j (average i j e), pow-add)
+            (mul-le-mul-left (2 ^ ((s * j + below) * N)) power-low);
       };
       high = λ i j e. record {
-        cross = rw (numerator ys, denominator ys, pow-mul, ← pow-add 2 ((s * i + above) * N) (137 * N * (256 * s)), high-exponent i j (average i j e), pow-add)
-            (mul-lt-mul-of-pos-left (mean-high units (256 * s) raisedSteps s l ys (every-map worth-high ys h) n) (pow-pos (s * j * N)));
+        cross =
+            rw (numerator ys, denominator ys, pow-mul, ← pow-add 2 ((s * i + above) * N), high-exponent i j (average i j e))
+            (rw pow-add (mul-lt-mul-of-pos-left power-high (pow-pos (s * j * N))));
       };
     }
       where
@@ -78,6 +80,12 @@ module _ (s l : ℕ) (rounded : (M : ℕ) → IsMantissa M → Rounded s l M) wh
 
         q : ℕ
         q = total raisedSteps ys / length ys
+
+        power-low : 2 ^ ((s * q + l) * N) ≤ times units ys ^ (256 * s)
+        power-low = mean-low units (256 * s) raisedSteps s l ys (every-map worth-low ys h)
+
+        power-high : times units ys ^ (256 * s) < 2 ^ ((s * (q + 2) + l) * N)
+        power-high = mean-high units (256 * s) raisedSteps s l ys (every-map worth-high ys h) n
 
         average : (i j : ℕ) → floorDiv (sumOf ys) (length ys) ≡ subℕ i j → i + 34816 ≡ q + j
         average i j e = sub-equal i j q 34816 (sym e ∙ average-is ys n)

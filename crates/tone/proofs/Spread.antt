@@ -1,5 +1,5 @@
--- Numbers whose logarithms are known to within a step: what that says of their product and of the average step. The p-th power of a worth
--- lies from 2^(s·step + l) to below 2^(s·(step + 1) + l): steps that are rounded down have s = 1, steps to the nearest have s = 2.
+-- Numbers whose logarithms are known to within a step: what that says of their product and of the average step. The p-th power of
+-- a worth lies from 2^(s·step + l) to below 2^(s·(step + 1) + l): steps rounded down have s = 1, steps to the nearest have s = 2.
 -- Assumes nothing.
 use mathlib.Core.Path.{_≡_}
 use mathlib.Core.List.{List, [], _∷_}
@@ -68,11 +68,13 @@ module _ {X : Type 0} (worth : X → ℕ) (p : ℕ) where
   high e [] h = rw one-pow (le-refl 1)
   high e (x ∷ xs) h = rw (pow-add, mul-pow) (mul-le-mul (le-of-lt (h .0)) (high e xs (h .1)))
 
-  high-strict : (e : X → ℕ) (xs : List X) → Every (λ x. worth x ^ p < 2 ^ e x) xs → 0 < length xs → times worth xs ^ p < 2 ^ total e xs
+  high-strict : (e : X → ℕ) (xs : List X) → Every (λ x. worth x ^ p < 2 ^ e x) xs → 0 < length xs
+      → times worth xs ^ p < 2 ^ total e xs
   high-strict e [] h n = absurd (not-suc-le-zero n)
   high-strict e (x ∷ xs) h n = rw (pow-add, mul-pow) (mul-lt-mul (h .0) (high e xs (h .1)) (pow-pos (total e xs)))
 
-  -- ---- the average step a, rounded down: the p-th power of the product of n worths lies from 2^((s·a + l)·n) to below 2^((s·(a+2) + l)·n)
+  -- ---- of n worths with the average step a, rounded down: the p-th power of their product lies from 2^((s·a + l)·n) to below
+  -- 2^((s·(a+2) + l)·n)
 
   module _ (step : X → ℕ) (s l : ℕ) where
     linear : (k : ℕ) (xs : List X) → total (λ x. s * (step x + k) + l) xs ≡ s * total step xs + (s * k + l) * length xs
@@ -82,7 +84,8 @@ module _ {X : Type 0} (worth : X → ℕ) (p : ℕ) where
     pub mean-low : (xs : List X) → Every (λ x. 2 ^ (s * (step x + 0) + l) ≤ worth x ^ p) xs
         → 2 ^ ((s * (total step xs / length xs) + l) * length xs) ≤ times worth xs ^ p
     mean-low xs h =
-        le-trans (pow-mono (omega (arith, linear 0 xs, mul-le-mul-left s (div-mul-le-self (total step xs) (length xs))))) (low _ xs h)
+        le-trans (pow-mono (omega (arith, linear 0 xs, mul-le-mul-left s (div-mul-le-self (total step xs) (length xs)))))
+        (low _ xs h)
 
     pub mean-high : (xs : List X) → Every (λ x. worth x ^ p < 2 ^ (s * (step x + 1) + l)) xs → 0 < length xs
         → times worth xs ^ p < 2 ^ ((s * (total step xs / length xs + 2) + l) * length xs)

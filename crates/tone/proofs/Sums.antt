@@ -1,5 +1,5 @@
 -- The steps of luminances and their sums: from −15,630 to 14,335 for each luminance. Assumes nothing.
-use mathlib.Core.Path.{_≡_, refl, sym, _∙_}
+use mathlib.Core.Path.{_≡_, refl}
 use mathlib.Core.List.{List, [], _∷_, _++_}
 use Prim.Native.Nat.{ℕ, suc, _+_, _*_, _^_, _≤_, _<_}
 use native.Mathlib.Nat.{lt-of-not-le}
@@ -31,7 +31,7 @@ pub record InSteps (steps : ℕ) : Type 0 where
   pub least : 19186 ≤ steps
   pub most : steps ≤ 49151
 
-pub raised-range : (y : Stored) → IsLuminance y → InSteps (raisedSteps y)
+raised-range : (y : Stored) → IsLuminance y → InSteps (raisedSteps y)
 raised-range y l = record { least = low (decLe 246 (y .mantissa)); most = omega (arith, log-le (y .mantissa)) }
   where
     low : Dec (246 ≤ y .mantissa) → 19186 ≤ raisedSteps y

@@ -20,7 +20,8 @@ returns : tie.Need-returns
 returns c =
     let b = c .before .before in
     toZ-ofZ (search needs) ∙ c .complement .ensures ∙ ap (λ x. negsuc 0 -ℤ x) (toZ-ofZ (cast-quotient b))
-    ∙ complement-pos (b .magnitude .result / b .before .args .count) ∙ rw (got b, is-negative _ (b .before .fits .sum) (c .before .if1 .taken))
+    ∙ complement-pos (b .magnitude .result / b .before .args .count)
+    ∙ rw (got b, is-negative _ (b .before .fits .sum) (c .before .if1 .taken))
 
 returns-2 : tie.Need-returns-2
 returns-2 c =

@@ -28,5 +28,5 @@ returns-2 c = let z = c .before .fits .z in cast-is _ z _ (is-natural _ z (c .if
 pub magnitude-spec : {M : Type 1} → statement M
 magnitude-spec =
     tie.close
-    (tie.spec (λ c κs. search needs) (λ c. cast-fits _ (fits c) _ (flipped c)) cast-result-2 (λ c. cast-is _ (fits c) _ (flipped c))
-    returns-2)
+    (tie.spec (λ c κs. search needs) (λ c. cast-fits _ (fits c) _ (flipped c)) cast-result-2
+    (λ c. cast-is _ (fits c) _ (flipped c)) returns-2)

@@ -6,4 +6,5 @@ use Rattle.tone.proofs.tables.root.Tie as tie
 pub root-spec : {M : Type 1} → statement M
 root-spec =
     tie.close
-    (tie.spec (λ c κs. search needs) (λ c. search needs) (λ c. c .root-table .ensures .entry (c .before .args .f) (c .before .pre)))
+    (tie.spec (λ c κs. search needs) (λ c. search needs)
+    (λ c. c .root-table .ensures .entry (c .before .args .f) (c .before .pre)))

@@ -1,6 +1,6 @@
 -- `tone::tally::steps` meets its contract. Assumes nothing.
 use mathlib.Core.Path.{_≡_, _∙_, ap}
-use Prim.Native.Nat.{ℕ, _+_, _-_, _*_, _^_, _<_}
+use Prim.Native.Nat.{_-_, _^_, _<_}
 use native.Mathlib.Nat.{add-sub-of-le}
 use native.Mathlib.Omega.{arith}
 use lib.Dec.{lit<}
@@ -34,6 +34,7 @@ returns c = toZ-ofZ (sub-result c) ∙ rw (got c, held _ (small c))
 pub steps-spec : {M : Type 1} → statement M
 steps-spec =
     tie.close
-    (tie.spec (λ c. search needs) (λ c. search needs) (λ c. search needs) (λ c. search needs) (λ c. search needs) (λ c. search needs)
+    (tie.spec (λ c. search needs) (λ c. search needs) (λ c. search needs) (λ c. search needs) (λ c. search needs)
+    (λ c. search needs)
     (λ c. rw (got c) (record { fits = omega (arith, small c) })) (λ c. rw (got c) (record { fits = omega (arith, small c) }))
     (λ c. rw (got c) (sfits-of (small c))) sub-result returns)

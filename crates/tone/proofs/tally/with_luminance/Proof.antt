@@ -15,7 +15,8 @@ abbrev start : tie.After-struct-told → tie.Start
 start c = c .before .before .before .before
 
 added : (c : tie.After-struct-told) → let a = start c .args in
-    toZ w64 (ofZ w64 (a .tally .sum)) +ℤ toZ w64 (ofZ w64 (c .before .before .before .steps .result)) ≡ a .tally .sum +ℤ stepsOf (a .luminance)
+    toZ w64 (ofZ w64 (a .tally .sum)) +ℤ toZ w64 (ofZ w64 (c .before .before .before .steps .result))
+    ≡ a .tally .sum +ℤ stepsOf (a .luminance)
 added c =
     let s = c .before .before .before .steps in
     sum-held _ _ (sum-fits (start c .pre .2)) (sfits-of (s .ok)) ∙ ap (λ z. start c .args .tally .sum +ℤ z) (s .ensures)
