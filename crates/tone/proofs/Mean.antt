@@ -59,6 +59,7 @@ module _ (s l : ℕ) (rounded : (M : ℕ) → IsMantissa M → Rounded s l M) wh
         rw (e, pow-add, mul-pow, pow-mul)
         (mul-lt-mul-of-pos-right (rounded (y .mantissa) (v .mantissa) .high) (pow-pos (y .exponent * (256 * s))))
 
+  -- T's share of the error is from −`below` parts to s − `below`, and the floor's from 0 to s
   module _ (below above : ℕ) (b : l + below ≡ 256 * s) (c : above + below ≡ 2 * s) where
     mean-within : (ys : List Stored) → Every IsLuminance ys → 0 < length ys
         → MeanWithin s below above (floorDiv (sumOf ys) (length ys)) ys
@@ -105,4 +106,4 @@ rounded-down M m =
     record { low = rw e (log-below M m); high = rw f (log-above M m) }
 
 pub mean-bound : MeanIsBounded
-mean-bound ys h n = mean-within 1 256 rounded-down 0 2 refl refl ys h n
+mean-bound ys h n = mean-within 1 256 rounded-down _ _ refl refl ys h n

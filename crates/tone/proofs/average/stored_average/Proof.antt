@@ -25,12 +25,12 @@ got-f c = c .floor-mod .ensures ∙ ap (λ z. floorMod z 256) (toZ-ofZ (c .befor
 exponent-requires : tie.Need-exponent-requires
 exponent-requires c κs =
     let b = c .before .before in
-    rw (got-q b) (exponent-range (b .before .args .steps) (b .before .pre) 128 (lit≤ tt) (lit≤ tt))
+    rw (got-q b) (exponent-range (b .before .args .steps) (b .before .pre) _ (lit≤ tt) (lit≤ tt))
 
 exponent-requires-2 : tie.Need-exponent-requires-2
 exponent-requires-2 c κs =
     let b = c .before .before in
-    rw (got-q b) (exponent-range (b .before .args .steps) (b .before .pre) 129 (lit≤ tt) (lit≤ tt))
+    rw (got-q b) (exponent-range (b .before .args .steps) (b .before .pre) _ (lit≤ tt) (lit≤ tt))
 
 root-requires : tie.Need-root-requires
 root-requires c κs =

@@ -26,7 +26,7 @@ small : (c : tie.After-struct-known2) → raisedSteps (c .before .before .before
 small c = omega (arith, log-le (c .before .before .before .args .luminance .mantissa))
 
 sub-result : tie.Need-sub-result
-sub-result c = rw (got c, held _ (small c)) (sub-fits _ 34816 (small c) (lit< tt))
+sub-result c = rw (got c, held _ (small c)) (sub-fits _ _ (small c) (lit< tt))
 
 returns : tie.Need-returns
 returns c = toZ-ofZ (sub-result c) ∙ rw (got c, held _ (small c))
