@@ -7,10 +7,10 @@ pub use Rattle.tone.specs.Tallies.{sumOf, tallyOf, withLuminance, join}
 pub use Rattle.tone.specs.Claims.{Every, MeanBound}
 -- what T and X promise
 pub use Rattle.tone.proofs.Rules.{log-below, log-above, root-below, root-above}
--- the steps of a luminance, and of the sums that the tally may have
+-- the range of a luminance's steps and that of a tally's sum
 pub use Rattle.tone.proofs.Sums.{steps-least, steps-most, sum-more, tally-is-sum}
--- lists one after the other, and one luminance more
-pub use Rattle.tone.proofs.Sums.{tally-append, tally-snoc}
+-- the tally of no luminance, of lists one after the other, and of one luminance more
+pub use Rattle.tone.proofs.Sums.{tally-none, tally-append, tally-snoc}
 -- the ranges of an average in steps and of a stored average
 pub use Rattle.tone.proofs.Averages.{average-in-range, stored-average-range}
 -- demand 3, first half

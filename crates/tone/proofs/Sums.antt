@@ -90,7 +90,11 @@ tally-is-sum ys h few =
     (difference-is-sum (length ys) (total raisedSteps ys) (34816 * length ys) few (omega (arith, total-least ys h))
     (omega (arith, total-most ys h)))
 
--- ---- lists one after the other
+-- ---- no luminance, lists one after the other, one luminance more
+
+pub tally-none : tallyOf [] ≡ record { count = 0; sum = pos 0 }
+unfolding sumOf
+tally-none = refl
 
 sum-append : (xs ys : List Stored) → sumOf (xs ++ ys) ≡ sumOf xs +ℤ sumOf ys
 unfolding sumOf
