@@ -25,6 +25,13 @@ rootTest f m = leb (m ^ 256) (2 ^ (1792 + f))
 unfoldable pub rootOf : ℕ → ℕ
 rootOf f = greatest (rootTest f) 255
 
--- a list of T[128] to T[255]
-pub record IsLogTable (logs : List ℕ) : Type 0 where
-  pub entry : (k : ℕ) → k < 128 → getD logs k 0 ≡ logOf (128 + k)
+-- a list of what the rule gives for 0, 1 and so on, below `size`
+pub record IsTable (size : ℕ) (rule : ℕ → ℕ) (entries : List ℕ) : Type 0 where
+  pub entry : (k : ℕ) → k < size → getD entries k 0 ≡ rule k
+
+-- T[128] to T[255], and X[0] to X[255]
+abbrev pub IsLogTable : List ℕ → Type 0
+IsLogTable logs = IsTable 128 (λ k. logOf (128 + k)) logs
+
+abbrev pub IsRootTable : List ℕ → Type 0
+IsRootTable roots = IsTable 256 rootOf roots

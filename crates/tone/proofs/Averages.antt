@@ -1,0 +1,81 @@
+-- The range of an average in steps and that of the stored average. Assumes nothing.
+use mathlib.Core.Path.{_≡_, refl, ap, _∙_}
+use mathlib.Core.Bool.{Bool, true, false, cond}
+use Prim.Native.Nat.{ℕ, _+_, _-_, _/_, _%_, _≤_, _<_, zero-le}
+use native.Mathlib.Nat.{div-lt-iff-lt-mul}
+use native.Mathlib.Omega.{arith}
+use lib.Dec.{eqb, le→leb, lit<}
+use lib.IntN.{ℤ, pos, subℕ, natAbs, _+ℤ_}
+use lib.Signed.{_≤ℤ_, leZ-yes}
+use borrow.Author.Tests.{eqb-true}
+use Rattle.tone.specs.Averages.{floorDiv, floorMod, storedAverage, IsSum, IsAverage}
+use Rattle.tone.specs.Levels.{IsStoredAverage}
+use Rattle.tone.specs.Tables.{rootOf}
+use Rattle.tone.proofs.Differences.{sub-pos, sub-plus, sub-same, sub-least, sub-most, lowered}
+use Rattle.tone.proofs.Division.{floor-sub, mod-sub}
+use Rattle.tone.proofs.Rules.{root-mantissa}
+use Rattle.tone.proofs.Sums.{InSteps, sum-lowered}
+
+pub average-in-range : {n : ℕ} {z : ℤ} → 0 < n → IsSum n z → IsAverage (floorDiv z n)
+average-in-range {n} h s =
+    let d = sum-lowered s in
+    let q = d .from / n in
+    let below : q < 29966 = div-lt-iff-lt-mul h .1 (omega (arith, d .most)) in
+    rw (d .is, floor-sub (d .from) 15630 n h)
+    (record { least = sub-least 15630 q 15630 (omega arith); most = sub-most 14335 q 15630 (omega arith) })
+
+-- an average as a difference, and its quotient and rest by 256
+record Raised (A : ℤ) : Type 0 where
+  pub steps : ℕ
+  pub is : A ≡ subℕ steps 34816
+  pub range : InSteps steps
+
+raised : (A : ℤ) → IsAverage A → Raised A
+raised A v =
+    let d = lowered 15630 14335 A (v .least) (v .most) in
+    record {
+      steps = d .from + 19186;
+      is = d .is ∙ sub-same (d .from) 15630 (d .from + 19186) 34816 (omega arith);
+      range = record { least = omega arith; most = omega (arith, d .most) };
+    }
+
+module _ (A : ℤ) (v : IsAverage A) where
+  abbrev a : ℕ
+  a = raised A v .steps
+
+  rest-is : floorMod A 256 ≡ a % 256
+  rest-is = ap (λ z. floorMod z 256) (raised A v .is) ∙ mod-sub a 136 256 (lit< tt)
+
+  module _ (k : ℕ) (low : 128 ≤ k) (high : k ≤ 129) where
+    exponent-is : floorDiv A 256 +ℤ pos k ≡ pos (a / 256 + k - 136)
+    exponent-is =
+        ap (λ z. floorDiv z 256 +ℤ pos k) (raised A v .is) ∙ ap (λ z. z +ℤ pos k) (floor-sub a 136 256 (lit< tt))
+        ∙ sub-plus (a / 256) 136 k ∙ sub-pos (a / 256 + k) 136 (a / 256 + k - 136) (omega (arith, raised A v .range .least))
+
+    pub exponent-range : (pos 0 ≤ℤ (floorDiv A 256 +ℤ pos k)) × ((floorDiv A 256 +ℤ pos k) ≤ℤ pos 255)
+    exponent-range =
+        rw exponent-is (
+          leZ-yes (le→leb 0 (a / 256 + k - 136) zero-le),
+          leZ-yes (le→leb (a / 256 + k - 136) 255 (omega (arith, raised A v .range .most))),
+        )
+
+  pub stored-average-range : IsStoredAverage (storedAverage A)
+  unfolding storedAverage
+  stored-average-range = by (eqb (floorMod A 256) 0) refl
+    where
+      by : (b : Bool) → eqb (floorMod A 256) 0 ≡ b
+          → IsStoredAverage (cond b (record { exponent = natAbs (floorDiv A 256 +ℤ pos 128); mantissa = 255 })
+          (record { exponent = natAbs (floorDiv A 256 +ℤ pos 129); mantissa = rootOf (floorMod A 256) }))
+      by true e =
+          let r = raised A v .range in
+          let whole : a % 256 ≡ 0 = rw rest-is at (eqb-true (floorMod A 256) 0 e) in
+          rw (exponent-is 128 (omega arith) (omega arith))
+          (record {
+            least = omega (arith, whole, r .least);
+            most = omega (arith, r .most);
+            mantissa = record { least = omega arith; most = omega arith };
+          })
+      by false e =
+          let r = raised A v .range in
+          rw (exponent-is 129 (omega arith) (omega arith))
+          (record { least = omega (arith, r .least); most = omega (arith, r .most); mantissa = root-mantissa (floorMod A 256) })

@@ -1,0 +1,13 @@
+-- `tone::tables::log_table` meets its contract: one test of all its entries, which is computed. Assumes nothing.
+use mathlib.Core.Path.{refl}
+use Rattle.tone.specs.Tables.{greatest, logTest, logOf}
+use Rattle.tone.proofs.Entries.{table}
+use Rattle.tone.proofs.tables.log_table.Statement.{statement}
+use Rattle.tone.proofs.tables.log_table.Tie as tie
+
+returns : tie.Need-returns
+unfolding logOf logTest greatest
+returns c = table _ _ refl tt
+
+pub log-table-spec : {M : Type 1} → statement M
+log-table-spec = tie.close (tie.spec returns)
