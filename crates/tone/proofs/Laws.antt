@@ -1,17 +1,20 @@
--- The tone steps for the crates above: their definitions, and the laws that these need. Assumes nothing.
+-- The laws of the tone steps for the crates above. Assumes nothing.
 
--- steps 2 and 3: tables, tallies, averages
-pub use Rattle.tone.specs.Tables.{logOf, rootOf, IsTable, IsLogTable}
-pub use Rattle.tone.specs.Averages.{stepsOf, floorDiv, storedAverage, averageOf, IsSum, IsAverage}
-pub use Rattle.tone.specs.Tallies.{sumOf, tallyOf, withLuminance, join}
-pub use Rattle.tone.specs.Claims.{Every, MeanBound}
--- what T and X promise
-pub use Rattle.tone.proofs.Rules.{log-below, log-above, root-below, root-above}
--- the range of a luminance's steps and that of a tally's sum
-pub use Rattle.tone.proofs.Sums.{steps-least, steps-most, sum-more, tally-is-sum}
--- the tally of no luminance, of lists one after the other, and of one luminance more
-pub use Rattle.tone.proofs.Sums.{tally-none, tally-append, tally-snoc}
--- the ranges of an average in steps and of a stored average
+-- step 1: the luminance of a lit pixel is what is stored of its exact luminance, and lies from (67,246) to (184,255)
+pub use Rattle.tone.proofs.Luminances.{luminance-stores, luminance-range}
+-- step 2: what T promises, and the range of a luminance's steps
+pub use Rattle.tone.proofs.Rules.{log-below, log-above}
+pub use Rattle.tone.proofs.Sums.{steps-least, steps-most}
+-- tallies: of no luminance, of lists one after the other, of one luminance more; the range of the sum
+pub use Rattle.tone.proofs.Sums.{tally-none, tally-append, tally-snoc, sum-more, tally-is-sum}
+-- step 3: what X promises; the ranges of an average in steps and of a stored average
+pub use Rattle.tone.proofs.Rules.{root-below, root-above}
 pub use Rattle.tone.proofs.Averages.{average-in-range, stored-average-range}
--- demand 3, first half
+-- steps 4 to 6: the range of a scaled luminance; black gives 0
+pub use Rattle.tone.proofs.Scaled.{is-scaled}
+pub use Rattle.tone.proofs.LevelSteps.{black-level}
+-- demand 3: the mean; a level, for every curve that never stretches a ratio, and for L/(1+L)
 pub use Rattle.tone.proofs.Mean.{mean-bound}
+pub use Rattle.tone.proofs.Curves.{NeverStretches, reinhard-ratio}
+pub use Rattle.tone.proofs.LevelBounds.{pixel-bound}
+pub use Rattle.tone.proofs.PixelBounds.{level-bound}

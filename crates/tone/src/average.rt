@@ -37,7 +37,7 @@ pub fn stored_average(steps: i64) -> Stored
     }
     Stored {
         exponent: exponent(q, 129),
-        mantissa: root(f),
+        mantissa: root(f as u8),
     }
 }
 

@@ -1,6 +1,5 @@
 // The tables T and X, each proved by one test over all its entries.
 ghost use mathlib.Core.Path.{_≡_};
-ghost use Prim.Native.Nat.{_<_};
 ghost use Rattle.tone.specs.Tables.{rootOf, IsLogTable, IsRootTable};
 
 // T[M] of the mantissas 128 to 255, at M - 128.
@@ -410,8 +409,7 @@ fn root_table() -> [u8; 256]
 }
 
 // X[f].
-pub fn root(f: u64) -> u8
-    requires { ⌜ f < 256 ⌝ }
+pub fn root(f: u8) -> u8
     ensures { λ r. ⌜ r ≡ rootOf f ⌝ }
 {
     let roots = root_table();

@@ -32,9 +32,9 @@ exponent-requires-2 c κs =
     let b = c .before .before in
     rw (got-q b) (exponent-range (b .before .args .steps) (b .before .pre) _ (lit≤ tt) (lit≤ tt))
 
-root-requires : tie.Need-root-requires
-root-requires c κs =
-    let b = c .before .before in rw (got-f b) (floor-mod-lt (b .before .before .args .steps) 256 (lit< tt))
+cast-root : tie.Need-cast-root
+cast-root c =
+    let b = c .before .before in rw (got-f b) (record { fits = floor-mod-lt (b .before .before .args .steps) 256 (lit< tt) })
 
 abbrev stored : ℕ → ℕ → Stored
 stored e m = record { exponent = e; mantissa = m }
@@ -56,4 +56,4 @@ returns-2 c =
 pub stored-average-spec : {M : Type 1} → statement M
 stored-average-spec =
     tie.close
-    (tie.spec (λ c κs. search needs) (λ c κs. search needs) exponent-requires returns exponent-requires-2 root-requires returns-2)
+    (tie.spec (λ c κs. search needs) (λ c κs. search needs) exponent-requires returns exponent-requires-2 cast-root (λ c κs. search needs) returns-2)

@@ -1,4 +1,5 @@
 -- `tone::tables::root` meets its contract. Assumes nothing.
+use native.Mathlib.Omega.{arith}
 use borrow.Author.Needs.{needs}
 use Rattle.tone.proofs.tables.root.Statement.{statement}
 use Rattle.tone.proofs.tables.root.Tie as tie
@@ -7,4 +8,4 @@ pub root-spec : {M : Type 1} → statement M
 root-spec =
     tie.close
     (tie.spec (λ c κs. search needs) (λ c. search needs)
-    (λ c. c .root-table .ensures .entry (c .before .args .f) (c .before .pre)))
+    (λ c. c .root-table .ensures .entry (c .before .args .f) (omega arith)))
