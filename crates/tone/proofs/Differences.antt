@@ -1,11 +1,11 @@
 -- Differences a − b of natural numbers, `subℕ a b`: their sums, their order and when they are equal. Assumes nothing.
 use mathlib.Core.Path.{_≡_, refl, sym, ap, subst, _∙_}
-use Prim.Native.Nat.{ℕ, zero, suc, _+_, _-_, _≤_}
+use Prim.Native.Nat.{ℕ, zero, suc, _+_, _-_, _*_, _≤_}
 use native.Mathlib.Nat.{add-zero, add-sub-of-le, lt-of-not-le}
 use native.Mathlib.Decide.{decLe}
 use native.Mathlib.Omega.{arith}
 use lib.Dec.{le→leb, leb→le}
-use lib.IntN.{ℤ, pos, negsuc, negℤ, natAbs, subℕ, _+ℤ_, _-ℤ_, +ℤ-assoc, +ℤ-comm, negℤ-+ℤ, +ℤ-negℤ-cancel}
+use lib.IntN.{ℤ, pos, negsuc, negℤ, subℕ, _+ℤ_, _-ℤ_, _*ℤ_, +ℤ-assoc, +ℤ-comm, +ℤ-idl, negℤ-+ℤ, +ℤ-negℤ-cancel, pos-*ℤ-pos, negsuc-*ℤ-pos}
 use lib.Signed.{_≤ℤ_, leZ-yes}
 use borrow.Author.Tests.{lt-ltb, le-ltb}
 
@@ -44,6 +44,9 @@ pub sub-plus : (a b k : ℕ) → subℕ a b +ℤ pos k ≡ subℕ (a + k) b
 sub-plus a b k =
     ap (λ z. subℕ a b +ℤ z) (sym (sub-pos k 0 k (omega arith))) ∙ sub-add a b k 0 ∙ ap (subℕ (a + k)) (add-zero b)
 
+pub sub-minus : (a b k : ℕ) → subℕ a b -ℤ pos k ≡ subℕ a (b + k)
+sub-minus a b k = ap (λ z. z -ℤ pos k) (sub-is a b) ∙ +ℤ-assoc (pos a) (negℤ (pos b)) (negℤ (pos k)) ∙ ap (λ z. pos a +ℤ z) (sym (negℤ-+ℤ (pos b) (pos k))) ∙ sym (sub-is a (b + k))
+
 -- ---- equal differences
 
 pub sub-same : (a b c d : ℕ) → a + d ≡ c + b → subℕ a b ≡ subℕ c d
@@ -54,14 +57,14 @@ sub-same a b c d e =
     back : subℕ (c + b) b -ℤ pos d ≡ subℕ c d
     back = rw (sub-pos (c + b) b c (omega arith)) (sym (sub-is c d))
 
-pub sub-equal : (a b c d : ℕ) → subℕ a b ≡ subℕ c d → a + d ≡ c + b
-sub-equal a b c d e = ap natAbs (left ∙ ap (λ z. z +ℤ pos (b + d)) e ∙ right)
-  where
-    left : pos (a + d) ≡ subℕ a b +ℤ pos (b + d)
-    left = sym (sub-plus a b (b + d) ∙ sub-pos (a + (b + d)) b (a + d) (omega arith))
+-- ---- products
 
-    right : subℕ c d +ℤ pos (b + d) ≡ pos (c + b)
-    right = sub-plus c d (b + d) ∙ sub-pos (c + (b + d)) d (c + b) (omega arith)
+pub sub-times : (a b n : ℕ) → subℕ a b *ℤ pos n ≡ subℕ (a * n) (b * n)
+sub-times a b n =
+    sub-cases (λ a b. subℕ a b *ℤ pos n ≡ subℕ (a * n) (b * n))
+    (λ b d. rw (sub-pos (b + d) b d refl) (pos-*ℤ-pos d n ∙ sym (sub-pos ((b + d) * n) (b * n) (d * n) (omega arith))))
+    (λ a d. rw (sub-neg a (suc a + d) d refl) (negsuc-*ℤ-pos d n ∙ sym (+ℤ-idl (negℤ (pos (suc d * n)))) ∙ sym (sub-is 0 (suc d * n)) ∙ sub-same 0 (suc d * n) (a * n) ((suc a + d) * n) (omega arith)))
+    a b
 
 -- ---- order
 

@@ -19,6 +19,7 @@ pub mod Scaled
 pub mod Displays
 pub mod LevelSteps
 -- demand 3
+pub mod Powers
 pub mod Spread
 pub mod Mean
 pub mod Close

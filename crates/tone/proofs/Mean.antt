@@ -1,21 +1,23 @@
 -- The first half of demand 3: how far the average lies from the logarithm of the mean, by how T is rounded. Assumes nothing.
-use mathlib.Core.Path.{_≡_, refl, sym, ap, _∙_}
+use mathlib.Core.Path.{_≡_, refl, sym, ap, _∙_, subst}
 use mathlib.Core.List.{List, [], _∷_}
 use Prim.Native.Nat.{ℕ, suc, _+_, _*_, _/_, _^_, _≤_, _<_}
 use native.Mathlib.Nat.{mul-le-mul-left, mul-le-mul-right, mul-lt-mul-of-pos-left, mul-lt-mul-of-pos-right}
 use native.Mathlib.Omega.{arith}
-use lib.IntN.{subℕ}
+use lib.IntN.{ℤ, pos, subℕ, _+ℤ_, _-ℤ_, _*ℤ_}
 use lib.ListN.{length}
 use lib.Pow.{pow-add, pow-pos}
-use Rattle.number.proofs.Laws.{IsMantissa, unit-power}
+use Rattle.number.proofs.Laws.{Frac, AtMost, Below, IsMantissa, unit-power}
 use Rattle.number.specs.declared.ratio.Stored.{Stored}
 use Rattle.tone.specs.Averages.{floorDiv}
-use Rattle.tone.specs.Claims.{Every, product, MeanWithin, MeanIsBounded}
+use Rattle.tone.specs.Claims.{Every, product, twoToThe, MeanWithin, MeanIsBounded}
 use Rattle.tone.specs.Pixels.{IsLuminance}
 use Rattle.tone.specs.Tables.{logOf}
 use Rattle.tone.specs.Tallies.{sumOf}
-use Rattle.tone.proofs.Differences.{sub-equal}
+use Rattle.tone.specs.Fractions.{power}
+use Rattle.tone.proofs.Differences.{sub-minus, sub-plus, sub-times}
 use Rattle.tone.proofs.Division.{floor-sub}
+use Rattle.tone.proofs.Powers.{power-at-most, below-power}
 use Rattle.tone.proofs.Rules.{log-below, log-above}
 use Rattle.tone.proofs.Spread.{mul-pow, pow-mul, total, times, every-map, mean-low, mean-high}
 use Rattle.tone.proofs.Sums.{raisedSteps, sum-is}
@@ -63,18 +65,15 @@ module _ (s l : ℕ) (rounded : (M : ℕ) → IsMantissa M → Rounded s l M) wh
   module _ (below above : ℕ) (b : l + below ≡ 256 * s) (c : above + below ≡ 2 * s) where
     mean-within : (ys : List Stored) → Every IsLuminance ys → 0 < length ys
         → MeanWithin s below above (floorDiv (sumOf ys) (length ys)) ys
-    mean-within ys h n = record {
-      low = λ i j e. record {
-        cross =
-            rw (numerator ys, denominator ys, pow-mul, ← pow-add 2 (s * i * N), low-exponent i j (average i j e), pow-add)
-            (mul-le-mul-left (2 ^ ((s * j + below) * N)) power-low);
-      };
-      high = λ i j e. record {
-        cross =
-            rw (numerator ys, denominator ys, pow-mul, ← pow-add 2 ((s * i + above) * N), high-exponent i j (average i j e))
-            (rw pow-add (mul-lt-mul-of-pos-left power-high (pow-pos (s * j * N))));
-      };
-    }
+    mean-within ys h n =
+        record {
+          low = subst (λ z. AtMost (twoToThe z) P)
+              (sym (scaled (λ z. z -ℤ pos below) (q * s) (34816 * s + below) (sub-minus (q * s) (34816 * s) below)))
+              (power-at-most P (q * s * N) ((34816 * s + below) * N) low);
+          high = subst (λ z. Below P (twoToThe z))
+              (sym (scaled (λ z. z +ℤ pos above) (q * s + above) (34816 * s) (sub-plus (q * s) (34816 * s) above)))
+              (below-power P ((q * s + above) * N) (34816 * s * N) high);
+        }
       where
         N : ℕ
         N = length ys
@@ -82,21 +81,29 @@ module _ (s l : ℕ) (rounded : (M : ℕ) → IsMantissa M → Rounded s l M) wh
         q : ℕ
         q = total raisedSteps ys / length ys
 
-        power-low : 2 ^ ((s * q + l) * N) ≤ times units ys ^ (256 * s)
-        power-low = mean-low units (256 * s) raisedSteps s l ys (every-map worth-low ys h)
+        P : Frac
+        P = power (product ys) (256 * s)
 
-        power-high : times units ys ^ (256 * s) < 2 ^ ((s * (q + 2) + l) * N)
-        power-high = mean-high units (256 * s) raisedSteps s l ys (every-map worth-high ys h) n
+        -- the exponents as differences
+        scaled : (f : ℤ → ℤ) (a b : ℕ) → f (subℕ (q * s) (34816 * s)) ≡ subℕ a b
+            → f (floorDiv (sumOf ys) (length ys) *ℤ pos s) *ℤ pos N ≡ subℕ (a * N) (b * N)
+        scaled f a b e =
+            ap (λ z. f z *ℤ pos N) (ap (λ z. z *ℤ pos s) (average-is ys n) ∙ sub-times q 34816 s)
+            ∙ ap (λ z. z *ℤ pos N) e ∙ sub-times a b N
 
-        average : (i j : ℕ) → floorDiv (sumOf ys) (length ys) ≡ subℕ i j → i + 34816 ≡ q + j
-        average i j e = sub-equal i j q 34816 (sym e ∙ average-is ys n)
+        low : 2 ^ (q * s * N) * power (product ys) (256 * s) .den ≤ 2 ^ ((34816 * s + below) * N) * power (product ys) (256 * s) .num
+        low = rw (numerator ys, denominator ys, pow-mul, ← pow-add 2 (q * s * N), exponent, pow-add)
+            (mul-le-mul-left (2 ^ ((34816 * s + below) * N)) (mean-low units (256 * s) raisedSteps s l ys (every-map worth-low ys h)))
+          where
+            exponent : q * s * N + 137 * N * (256 * s) ≡ (34816 * s + below) * N + (s * q + l) * N
+            exponent = omega (arith, ap (λ (x : ℕ). N * x) b)
 
-        low-exponent : (i j : ℕ) → i + 34816 ≡ q + j → s * i * N + 137 * N * (256 * s) ≡ (s * j + below) * N + (s * q + l) * N
-        low-exponent i j e = omega (arith, ap (λ (x : ℕ). s * N * x) e, ap (λ (x : ℕ). N * x) b)
-
-        high-exponent : (i j : ℕ) → i + 34816 ≡ q + j
-            → (s * i + above) * N + 137 * N * (256 * s) ≡ s * j * N + (s * (q + 2) + l) * N
-        high-exponent i j e = omega (arith, ap (λ (x : ℕ). s * N * x) e, ap (λ (x : ℕ). N * x) b, ap (λ (x : ℕ). N * x) c)
+        high : 2 ^ (34816 * s * N) * power (product ys) (256 * s) .num < 2 ^ ((q * s + above) * N) * power (product ys) (256 * s) .den
+        high = rw (numerator ys, denominator ys, pow-mul, ← pow-add 2 ((q * s + above) * N), exponent) (rw pow-add
+            (mul-lt-mul-of-pos-left (mean-high units (256 * s) raisedSteps s l ys (every-map worth-high ys h) n) (pow-pos (34816 * s * N))))
+          where
+            exponent : (q * s + above) * N + 137 * N * (256 * s) ≡ 34816 * s * N + (s * (q + 2) + l) * N
+            exponent = omega (arith, ap (λ (x : ℕ). N * x) b, ap (λ (x : ℕ). N * x) c)
 
 -- T is rounded down
 rounded-down : (M : ℕ) → IsMantissa M → Rounded 1 256 M

@@ -2,10 +2,10 @@
 use mathlib.Core.Path.{_≡_}
 use mathlib.Core.List.{List, [], _∷_}
 use mathlib.Core.Logic.{_⊎_}
-use Prim.Native.Nat.{ℕ, _+_, _*_, _^_, _≤_, _<_, min}
-use lib.IntN.{ℤ, subℕ}
+use Prim.Native.Nat.{ℕ, suc, _+_, _*_, _<_, min}
+use lib.IntN.{ℤ, pos, negsuc, _+ℤ_, _-ℤ_, _*ℤ_}
 use lib.ListN.{length}
-use Rattle.number.proofs.Laws.{Frac, _over_, worthOf}
+use Rattle.number.proofs.Laws.{Frac, _over_, twoTo, twoToMinus, AtMost, Below, worthOf}
 use Rattle.number.specs.declared.channel.Channel.{Channel}
 use Rattle.number.specs.declared.channel.Pixel.{Pixel}
 use Rattle.number.specs.declared.ratio.Stored.{Stored}
@@ -28,18 +28,16 @@ abbrev pub product : List Stored → Frac
 product [] = 1 over 1
 product (y ∷ ys) = worthIn y · product ys
 
--- 2^(i−j) is at most x, and x is below 2^(i−j), "negative exponents moved across"
-pub record PowerAtMost (i j : ℕ) (x : Frac) : Type 0 where
-  pub cross : 2 ^ i * x .den ≤ 2 ^ j * x .num
+-- 2^z: where the exponent is negative, the power is moved across the fraction line
+abbrev pub twoToThe : ℤ → Frac
+twoToThe (pos n) = twoTo n
+twoToThe (negsuc n) = twoToMinus (suc n)
 
-pub record BelowPower (i j : ℕ) (x : Frac) : Type 0 where
-  pub cross : 2 ^ j * x .num < 2 ^ i * x .den
-
--- The logarithm of the mean of N luminances, in parts of a step of which s make one, lies at most `below` parts below s·A and less than
--- `above` parts above it: 2^((s·A − below)·N) ≤ P^(256·s) < 2^((s·A + above)·N), with A = i − j.
+-- The logarithm of the mean of N luminances is counted in parts of a step, of which s make one. It lies at most `below` parts below s·A
+-- and less than `above` parts above: 2^((s·A − below)·N) ≤ P^(256·s) < 2^((s·A + above)·N).
 pub record MeanWithin (s below above : ℕ) (A : ℤ) (ys : List Stored) : Type 0 where
-  pub low : (i j : ℕ) → A ≡ subℕ i j → PowerAtMost (s * i * length ys) ((s * j + below) * length ys) (power (product ys) (256 * s))
-  pub high : (i j : ℕ) → A ≡ subℕ i j → BelowPower ((s * i + above) * length ys) (s * j * length ys) (power (product ys) (256 * s))
+  pub low : AtMost (twoToThe ((A *ℤ pos s -ℤ pos below) *ℤ pos (length ys))) (power (product ys) (256 * s))
+  pub high : Below (power (product ys) (256 * s)) (twoToThe ((A *ℤ pos s +ℤ pos above) *ℤ pos (length ys)))
 
 -- "2^(A·N) is at most P^256, and P^256 is below 2^((A+2)·N)"
 abbrev pub MeanBound : ℤ → List Stored → Type 0
