@@ -8,7 +8,7 @@ use lib.Dec.{eqb, le→leb, lit<}
 use lib.IntN.{ℤ, pos, subℕ, natAbs, _+ℤ_}
 use lib.Signed.{_≤ℤ_, leZ-yes}
 use borrow.Author.Tests.{eqb-true}
-use Rattle.tone.specs.Averages.{floorDiv, floorMod, storedAverage, IsSum, IsAverage}
+use Rattle.tone.specs.Averages.{floorDiv, floorMod, storedAverage, IsSum, IsAverage, HasAverage}
 use Rattle.tone.specs.Levels.{IsStoredAverage}
 use Rattle.tone.specs.Tables.{rootOf}
 use Rattle.tone.proofs.Differences.{sub-pos, sub-plus, sub-same, sub-least, sub-most, lowered}
@@ -16,13 +16,16 @@ use Rattle.tone.proofs.Division.{floor-sub, mod-sub}
 use Rattle.tone.proofs.Rules.{root-mantissa}
 use Rattle.tone.proofs.Sums.{InSteps, sum-lowered}
 
-pub average-in-range : {n : ℕ} {z : ℤ} → 0 < n → IsSum n z → IsAverage (floorDiv z n)
+average-in-range : {n : ℕ} {z : ℤ} → 0 < n → IsSum n z → IsAverage (floorDiv z n)
 average-in-range {n} h s =
     let d = sum-lowered s in
     let q = d .from / n in
     let below : q < 29966 = div-lt-iff-lt-mul h .1 (omega (arith, d .most)) in
     rw (d .is, floor-sub (d .from) 15630 n h)
     (record { least = sub-least 15630 q 15630 (omega arith); most = sub-most 14335 q 15630 (omega arith) })
+
+pub sum-has-average : {n : ℕ} {z : ℤ} → IsSum n z → HasAverage n z
+sum-has-average s = record { in-range = λ h. average-in-range h s }
 
 -- an average as a difference, and its quotient and rest by 256
 record Raised (A : ℤ) : Type 0 where

@@ -1,5 +1,5 @@
--- Curves that never stretch a ratio: where x is at most r ≥ 1 times y, f(x) is at most r times f(y). That is to say that f never falls and
--- f(x)/x never rises. Assumes nothing.
+-- Curves that never stretch a ratio: where x is at most r ≥ 1 times y, f(x) is at most r times f(y). That is to say that f never falls
+-- and f(x)/x never rises. Assumes nothing.
 use Prim.Native.Nat.{ℕ, _*_, _≤_, _<_}
 use native.Mathlib.Omega.{arith}
 use native.Mathlib.Nat.{mul-le-mul-left}

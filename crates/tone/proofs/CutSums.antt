@@ -5,8 +5,24 @@ use native.Mathlib.Nat.{le-div-iff-mul-le, mul-le-mul-right, mul-pos}
 use native.Mathlib.Omega.{arith}
 use lib.Dec.{lit<}
 use lib.Pow.{pow-pos}
-use Rattle.number.proofs.Laws.{_over_, Stores, unit, storedOf, unit-pos, unit-power, fits-between, in-range, powers-into, powers-out, ratio-above, ratio-at-most, rescale, scales-equal, stored-as}
-use Rattle.tone.specs.Ratios.{unitRatio, Storable}
+use Rattle.number.proofs.Laws.{
+  _over_,
+  Stores,
+  unit,
+  storedOf,
+  unit-pos,
+  unit-power,
+  fits-between,
+  in-range,
+  powers-into,
+  powers-out,
+  ratio-above,
+  ratio-at-most,
+  rescale,
+  scales-equal,
+  stored-as,
+}
+use Rattle.tone.proofs.Storables.{unitRatio, Storable}
 use Rattle.tone.proofs.Sticky.{jamOf, jam-multiple, jam-scales, jam-term}
 
 -- the terms are added from the smallest exponent on

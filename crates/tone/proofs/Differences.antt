@@ -5,7 +5,23 @@ use native.Mathlib.Nat.{add-zero, add-sub-of-le, lt-of-not-le}
 use native.Mathlib.Decide.{decLe}
 use native.Mathlib.Omega.{arith}
 use lib.Dec.{le→leb, leb→le}
-use lib.IntN.{ℤ, pos, negsuc, negℤ, subℕ, _+ℤ_, _-ℤ_, _*ℤ_, +ℤ-assoc, +ℤ-comm, +ℤ-idl, negℤ-+ℤ, +ℤ-negℤ-cancel, pos-*ℤ-pos, negsuc-*ℤ-pos}
+use lib.IntN.{
+  ℤ,
+  pos,
+  negsuc,
+  negℤ,
+  subℕ,
+  _+ℤ_,
+  _-ℤ_,
+  _*ℤ_,
+  +ℤ-assoc,
+  +ℤ-comm,
+  +ℤ-idl,
+  negℤ-+ℤ,
+  +ℤ-negℤ-cancel,
+  pos-*ℤ-pos,
+  negsuc-*ℤ-pos,
+}
 use lib.Signed.{_≤ℤ_, leZ-yes}
 use borrow.Author.Tests.{lt-ltb, le-ltb}
 
@@ -45,7 +61,9 @@ sub-plus a b k =
     ap (λ z. subℕ a b +ℤ z) (sym (sub-pos k 0 k (omega arith))) ∙ sub-add a b k 0 ∙ ap (subℕ (a + k)) (add-zero b)
 
 pub sub-minus : (a b k : ℕ) → subℕ a b -ℤ pos k ≡ subℕ a (b + k)
-sub-minus a b k = ap (λ z. z -ℤ pos k) (sub-is a b) ∙ +ℤ-assoc (pos a) (negℤ (pos b)) (negℤ (pos k)) ∙ ap (λ z. pos a +ℤ z) (sym (negℤ-+ℤ (pos b) (pos k))) ∙ sym (sub-is a (b + k))
+sub-minus a b k =
+    ap (λ z. z -ℤ pos k) (sub-is a b) ∙ +ℤ-assoc (pos a) (negℤ (pos b)) (negℤ (pos k))
+    ∙ ap (λ z. pos a +ℤ z) (sym (negℤ-+ℤ (pos b) (pos k))) ∙ sym (sub-is a (b + k))
 
 -- ---- equal differences
 
@@ -63,8 +81,11 @@ pub sub-times : (a b n : ℕ) → subℕ a b *ℤ pos n ≡ subℕ (a * n) (b * 
 sub-times a b n =
     sub-cases (λ a b. subℕ a b *ℤ pos n ≡ subℕ (a * n) (b * n))
     (λ b d. rw (sub-pos (b + d) b d refl) (pos-*ℤ-pos d n ∙ sym (sub-pos ((b + d) * n) (b * n) (d * n) (omega arith))))
-    (λ a d. rw (sub-neg a (suc a + d) d refl) (negsuc-*ℤ-pos d n ∙ sym (+ℤ-idl (negℤ (pos (suc d * n)))) ∙ sym (sub-is 0 (suc d * n)) ∙ sub-same 0 (suc d * n) (a * n) ((suc a + d) * n) (omega arith)))
+    (λ a d. rw (sub-neg a (suc a + d) d refl) (negsuc-*ℤ-pos d n ∙ negative (suc d * n) (a * n) ((suc a + d) * n) (omega arith)))
     a b
+  where
+    negative : (k x y : ℕ) → x + k ≡ y → negℤ (pos k) ≡ subℕ x y
+    negative k x y e = sym (+ℤ-idl (negℤ (pos k))) ∙ sym (sub-is 0 k) ∙ sub-same 0 k x y (omega arith)
 
 -- ---- order
 

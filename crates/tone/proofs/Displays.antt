@@ -1,16 +1,40 @@
 -- Step 5: the display luminance of v · 2^e units, v = 2M + 1. Assumes nothing.
 use mathlib.Core.Path.{_≡_, refl, sym, ap, ap₂, _∙_, subst}
 use Prim.Native.Nat.{ℕ, _+_, _-_, _*_, _^_, _≤_, _<_}
-use native.Mathlib.Nat.{le-refl, le-trans, lt-of-le-of-lt, mul-assoc, mul-le-mul, mul-le-mul-left, mul-le-mul-right, mul-lt-mul-of-pos-right}
+use native.Mathlib.Nat.{
+  le-refl,
+  le-trans,
+  lt-of-le-of-lt,
+  mul-assoc,
+  mul-le-mul,
+  mul-le-mul-left,
+  mul-le-mul-right,
+  mul-lt-mul-of-pos-right,
+}
 use native.Mathlib.Omega.{arith}
 use lib.Dec.{lit<, lit≤}
 use lib.Pow.{pow-add, pow-mono, pow-pos}
-use Rattle.number.proofs.Laws.{Frac, _over_, Equal, Normalised, IsMantissa, unit, storedOf, unit-pos, unit-power, cell, fits-between, ratio-above, ratio-at-most, rescale, stored, stored-as}
+use Rattle.number.proofs.Laws.{
+  Frac,
+  _over_,
+  Equal,
+  Normalised,
+  IsMantissa,
+  unit,
+  storedOf,
+  unit-pos,
+  unit-power,
+  cell,
+  fits-between,
+  ratio-above,
+  ratio-at-most,
+  rescale,
+  stored,
+  stored-as,
+}
 use Rattle.number.specs.declared.ratio.Stored.{Stored}
-use Rattle.tone.specs.Levels.{IsScaled, reinhard, displayOf}
-use Rattle.tone.specs.Pixels.{worthIn}
-use Rattle.tone.specs.Ratios.{unitRatio, Storable}
-use Rattle.tone.proofs.Storables.{StoresAs, stored-alike}
+use Rattle.tone.specs.Levels.{IsScaled, reinhard, displayOf, storedWorth}
+use Rattle.tone.proofs.Storables.{unitRatio, Storable, StoresAs, stored-alike}
 
 -- L/(1+L) of v · 2^e units
 abbrev share : (v e : ℕ) → Frac
@@ -24,9 +48,9 @@ shut : (P : ℕ → Type 0) → P (2 ^ 137) → P unit
 shut P h = subst P (sym unit-power) h
 
 -- every display luminance is above 2^-129
-pub display-stores : (l : Stored) → IsScaled l → StoresAs (reinhard (worthIn l)) (displayOf reinhard l)
+pub display-stores : (l : Stored) → IsScaled l → StoresAs (reinhard (storedWorth l)) (displayOf reinhard l)
 display-stores l s =
-    stored (reinhard (worthIn l)) 129 (lit≤ tt) (share-pos _ _)
+    stored (reinhard (storedWorth l)) 129 (lit≤ tt) (share-pos _ _)
     (record {
       cross = shut (λ (u : ℕ). 1 * (u + w) < w * 2 ^ 129)
           (large (2 ^ 129) w (lit≤ tt) (mul-le-mul {n₁ = 257} (omega (arith, s .mantissa)) (pow-mono {i = 1} (s .least))));

@@ -9,7 +9,7 @@ pub use Rattle.tone.proofs.Sums.{steps-least, steps-most}
 pub use Rattle.tone.proofs.Sums.{tally-none, tally-append, tally-snoc, sum-more, tally-is-sum}
 -- step 3: what X promises; the ranges of an average in steps and of a stored average
 pub use Rattle.tone.proofs.Rules.{root-below, root-above}
-pub use Rattle.tone.proofs.Averages.{average-in-range, stored-average-range}
+pub use Rattle.tone.proofs.Averages.{sum-has-average, stored-average-range}
 -- steps 4 to 6: the range of a scaled luminance; black gives 0
 pub use Rattle.tone.proofs.Scaled.{is-scaled}
 pub use Rattle.tone.proofs.LevelSteps.{black-level}

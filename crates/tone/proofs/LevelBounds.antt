@@ -1,5 +1,5 @@
--- Demand 3, second half: a level lies within 5/2 of the exact value, for every curve that never stretches a ratio. Of storing it uses only
--- that what is stored is near. Assumes nothing.
+-- Demand 3, second half: a level lies within 5/2 of the exact value, for every curve that never stretches a ratio. Of storing it uses
+-- only that what is stored is near. Assumes nothing.
 use Prim.Native.Nat.{ℕ, _+_, _*_, _^_, _<_}
 use native.Mathlib.Omega.{arith}
 use native.Mathlib.Nat.{add-comm, mul-le-mul-left, mul-pos}
@@ -10,9 +10,9 @@ use Rattle.number.specs.declared.channel.Channel.the-variants.{Black, Lit}
 use Rattle.number.specs.declared.channel.Pixel.{Pixel}
 use Rattle.number.specs.declared.ratio.Stored.{Stored}
 use Rattle.tone.specs.Claims.{WithinHalves, LevelBound}
-use Rattle.tone.specs.Fractions.{_·_, _÷_, _•_}
-use Rattle.tone.specs.Levels.{keyOver, toLevel, levelOf}
-use Rattle.tone.specs.Pixels.{exactLuminance, worthIn}
+use Rattle.tone.specs.Fractions.{_·_, _÷_, _times_, atMost255}
+use Rattle.tone.specs.Levels.{keyOverAverage, toLevel, levelOf, storedWorth}
+use Rattle.tone.specs.Pixels.{exactLuminance}
 use Rattle.tone.proofs.Close.{
   AtMostBy,
   Close,
@@ -27,7 +27,7 @@ use Rattle.tone.proofs.Curves.{NeverStretches}
 use Rattle.tone.proofs.Rounding.{rounded}
 
 -- divided by both luminances
-quotients : (n : ℕ) (d c w g b y : Frac) → AtMostBy n (d · y · c) (g · w · b) → AtMostBy n (255 • d · c ÷ w) (255 • g · b ÷ y)
+quotients : (n : ℕ) (d c w g b y : Frac) → AtMostBy n (d · y · c) (g · w · b) → AtMostBy n (255 times d · c ÷ w) (255 times g · b ÷ y)
 quotients n d c w g b y h = omega arith
 
 module _ (f : Frac → Frac) (S : NeverStretches f) where
@@ -56,23 +56,23 @@ module _ (f : Frac → Frac) (S : NeverStretches f) where
   level-within : (h m j : ℕ) (k x w l d c b : Frac) → 511 * 256 ^ (1 + m + j) < h * 256 ^ (1 + m + j) + 510 * 255 ^ (1 + m + j)
       → 0 < k .den → Positive x → 0 < c .den → 0 < b .den
       → Close m x w → Positive w → Close m (k · w) l → Near (f l) d → 0 < l .den → Close j c b
-      → WithinHalves h (toLevel (d · c ÷ w)) (255 • f (k · x) · b ÷ x)
+      → WithinHalves h (toLevel (d · c ÷ w)) (atMost255 (255 times f (k · x) · b ÷ x))
   level-within h m j k x w l d c b room pk px pc pb hx pw hl hd pl hb =
       let s = display m k x w l d (px .denominator) pl hx hl (near-close hd) in
-      rounded h (1 + m + j) (255 • d · c ÷ w) (255 • f (k · x) · b ÷ x) room
+      rounded h (1 + m + j) (255 times d · c ÷ w) (255 times f (k · x) · b ÷ x) room
       (search (mul-pos, near-pos hd .1, pw)) (search (mul-pos, S .den-pos))
       (record {
         above = quotients _ d c w (f (k · x)) b x (at-most-times (s .above) (hb .above));
         below = quotients _ (f (k · x)) b x d c w (at-most-times (s .below) (hb .below));
       })
 
-  -- of a pixel with the stored luminance y, scaled luminance l and display luminance d: one rounding of the luminance, none of the channel
+  -- of a pixel with the stored luminance y, scaled luminance l and display luminance d: the luminance is rounded once, the channel not
   pub pixel-bound : (K : ℕ) (a y l d : Stored) (p : Pixel) (c : Channel)
-      → Near (exactLuminance p) (worthIn y) → Near (keyOver K a · worthIn y) (worthIn l) → Near (f (worthIn l)) (worthIn d)
+      → Near (exactLuminance p) (storedWorth y) → Near (keyOverAverage K a · storedWorth y) (storedWorth l) → Near (f (storedWorth l)) (storedWorth d)
       → LevelBound f K a p c (levelOf d c y)
   unfolding levelOf
   pixel-bound K a y l d p c hy hl hd =
-      level-within _ 1 0 (keyOver K a) (exactLuminance p) (worthIn y) (worthIn l) (worthIn d) (worthOf c) (worthOf c) (omega arith)
+      level-within _ 1 0 (keyOverAverage K a) (exactLuminance p) (storedWorth y) (storedWorth l) (storedWorth d) (worthOf c) (worthOf c) (omega arith)
       (mul-pos {m = 1000} (omega arith) (mul-pos (omega arith) (pow-pos (a .exponent)))) (near-pos hy .0) (channel-pos c) (channel-pos c)
       (near-close hy) (near-pos hy .1) (near-close hl) hd unit-pos (close-refl (worthOf c))
     where

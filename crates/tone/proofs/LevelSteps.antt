@@ -1,14 +1,23 @@
 -- Step 6: levels of num · 2^up / (den · 2^down), and the level of a channel as one. Assumes nothing.
 use mathlib.Core.Path.{_≡_, sym, ap, _∙_, subst}
 use Prim.Native.Nat.{ℕ, _+_, _-_, _*_, _^_, _≤_, _<_, min}
-use native.Mathlib.Nat.{div-eq-of-lt, le-div-iff-mul-le, le-of-eq, le-trans, min-eq-left, mul-le-mul-right, mul-pos, sub-add-cancel}
+use native.Mathlib.Nat.{
+  div-eq-of-lt,
+  le-div-iff-mul-le,
+  le-of-eq,
+  le-trans,
+  min-eq-left,
+  mul-le-mul-right,
+  mul-pos,
+  sub-add-cancel,
+}
 use native.Mathlib.Omega.{arith}
 use lib.Pow.{pow-add, pow-mono, pow-pos}
 use Rattle.number.proofs.Laws.{Frac, _over_, unit, unit-pos, unit-power}
 use Rattle.number.specs.declared.channel.Channel.{Channel}
 use Rattle.number.specs.declared.channel.Channel.the-variants.{Black, Lit}
 use Rattle.number.specs.declared.ratio.Stored.{Stored}
-use Rattle.tone.specs.Fractions.{nearest}
+use Rattle.tone.specs.Fractions.{nearestWhole}
 use Rattle.tone.specs.Levels.{levelOf}
 use Rattle.tone.proofs.Rounding.{nearest-equal}
 
@@ -23,7 +32,7 @@ module _ (num up den down : ℕ) (n : (255 ≤ num) × (num < 2 ^ 26)) (d : (1 �
   abbrev x : Frac
   x = num * 2 ^ up over den * 2 ^ down
 
-  pub full : down + 9 ≤ up → 255 ≡ min 255 (nearest x)
+  pub full : down + 9 ≤ up → 255 ≡ min 255 (nearestWhole x)
   full h = sym (min-eq-left (le-div-iff-mul-le (mul-pos {m = 2} (omega arith) pos) .1 (most (2 ^ up) (2 ^ down) (apart down up 9 h))))
     where
       pos : 0 < den * 2 ^ down
@@ -32,13 +41,13 @@ module _ (num up den down : ℕ) (n : (255 ≤ num) × (num < 2 ^ 26)) (d : (1 �
       most : (p q : ℕ) → q * 2 ^ 9 ≤ p → 255 * (2 * (den * q)) ≤ 2 * (num * p) + den * q
       most p q h = omega (arith, mul-le-mul-right q (d .1), mul-le-mul-right p (n .0))
 
-  pub dark : up + 27 ≤ down → 0 ≡ min 255 (nearest x)
+  pub dark : up + 27 ≤ down → 0 ≡ min 255 (nearestWhole x)
   dark h = ap (min 255) (sym (div-eq-of-lt (least (2 ^ up) (2 ^ down) (pow-pos up) (apart up down 27 h))))
     where
       least : (p q : ℕ) → 0 < p → p * 2 ^ 27 ≤ q → 2 * (num * p) + den * q < 2 * (den * q)
       least p q o h = omega (arith, mul-le-mul-right q (d .0), mul-le-mul-right p (n .1))
 
-  pub raised : (s : ℕ) → down ≤ up → s ≡ num * 2 ^ (up - down) → min 255 (nearest (s over den)) ≡ min 255 (nearest x)
+  pub raised : (s : ℕ) → down ≤ up → s ≡ num * 2 ^ (up - down) → min 255 (nearestWhole (s over den)) ≡ min 255 (nearestWhole x)
   raised s h q =
       ap (min 255) (nearest-equal (s over den) x (d .0) (mul-pos (d .0) (pow-pos down))
       (record { cross = ap (λ (z : ℕ). z * (den * 2 ^ down)) q ∙ regroup (2 ^ (up - down)) (2 ^ down) (2 ^ up) (powers up down h) }))
@@ -46,7 +55,7 @@ module _ (num up den down : ℕ) (n : (255 ≤ num) × (num < 2 ^ 26)) (d : (1 �
       regroup : (p q r : ℕ) → p * q ≡ r → num * p * (den * q) ≡ num * r * den
       regroup p q r f = omega (arith, ap (λ (z : ℕ). num * den * z) f)
 
-  pub lowered : (s : ℕ) → up ≤ down → s ≡ den * 2 ^ (down - up) → min 255 (nearest (num over s)) ≡ min 255 (nearest x)
+  pub lowered : (s : ℕ) → up ≤ down → s ≡ den * 2 ^ (down - up) → min 255 (nearestWhole (num over s)) ≡ min 255 (nearestWhole x)
   lowered s h q =
       ap (min 255) (nearest-equal (num over s) x pos (mul-pos (d .0) (pow-pos down))
       (record { cross = regroup (2 ^ (down - up)) (2 ^ up) (2 ^ down) (powers down up h) ∙ sym (ap (λ (z : ℕ). num * 2 ^ up * z) q) }))
@@ -66,7 +75,7 @@ unfolding levelOf
 black-level d c y q = rw q (ap (min 255) (sym (div-eq-of-lt (omega (arith, divisor-pos y)))))
 
 pub lit-level : (d : Stored) (c : Channel) (y : Stored) (E M : ℕ) → c ≡ Lit E M
-    → min 255 (nearest
+    → min 255 (nearestWhole
     (255 * (2 * d .mantissa + 1) * (2 * M + 1) * 2 ^ (d .exponent + E) over (2 * y .mantissa + 1) * 2 ^ (y .exponent + 137)))
     ≡ levelOf d c y
 unfolding levelOf

@@ -1,16 +1,20 @@
 -- The first half of demand 3: how far the average lies from the logarithm of the mean, by how T is rounded. Assumes nothing.
 use mathlib.Core.Path.{_≡_, refl, sym, ap, _∙_, subst}
+use mathlib.Core.Bool.{Bool, true, false, cond}
 use mathlib.Core.List.{List, [], _∷_}
-use Prim.Native.Nat.{ℕ, suc, _+_, _*_, _/_, _^_, _≤_, _<_}
-use native.Mathlib.Nat.{mul-le-mul-left, mul-le-mul-right, mul-lt-mul-of-pos-left, mul-lt-mul-of-pos-right}
+use Prim.Native.Nat.{ℕ, zero, suc, _+_, _*_, _/_, _^_, _≤_, _<_}
+use native.Mathlib.Nat.{mul-le-mul-left, mul-le-mul-right, mul-lt-mul-of-pos-left, mul-lt-mul-of-pos-right, pos-of-ne-zero}
 use native.Mathlib.Omega.{arith}
+use borrow.Author.Tests.{eqb-false}
+use lib.Dec.{eqb}
 use lib.IntN.{ℤ, pos, subℕ, _+ℤ_, _-ℤ_, _*ℤ_}
 use lib.ListN.{length}
 use lib.Pow.{pow-add, pow-pos}
 use Rattle.number.proofs.Laws.{Frac, AtMost, Below, IsMantissa, unit-power}
 use Rattle.number.specs.declared.ratio.Stored.{Stored}
-use Rattle.tone.specs.Averages.{floorDiv}
-use Rattle.tone.specs.Claims.{Every, product, twoToThe, MeanWithin, MeanIsBounded}
+use Rattle.tone.specs.Averages.{floorDiv, storedAverage, averageOf}
+use Rattle.tone.specs.declared.average.Average.the-variants.{Absent, Present}
+use Rattle.tone.specs.Claims.{Every, productOfWorths, twoToThe, MeanWithin, MeanBound, MeanIsBounded}
 use Rattle.tone.specs.Pixels.{IsLuminance}
 use Rattle.tone.specs.Tables.{logOf}
 use Rattle.tone.specs.Tallies.{sumOf}
@@ -19,7 +23,7 @@ use Rattle.tone.proofs.Differences.{sub-minus, sub-plus, sub-times}
 use Rattle.tone.proofs.Division.{floor-sub}
 use Rattle.tone.proofs.Powers.{power-at-most, below-power}
 use Rattle.tone.proofs.Rules.{log-below, log-above}
-use Rattle.tone.proofs.Spread.{mul-pow, pow-mul, total, times, every-map, mean-low, mean-high}
+use Rattle.tone.proofs.Spread.{mul-pow, pow-mul, total, productOf, every-map, mean-low, mean-high}
 use Rattle.tone.proofs.Sums.{raisedSteps, sum-is}
 
 -- T[M] is a logarithm of M + 1/2 to within a step: 2^(s·T + l) ≤ (2M+1)^(256·s) < 2^(s·(T+1) + l)
@@ -31,11 +35,11 @@ record Rounded (s l M : ℕ) : Type 0 where
 abbrev units : Stored → ℕ
 units y = (2 * y .mantissa + 1) * 2 ^ y .exponent
 
-numerator : (ys : List Stored) → product ys .num ≡ times units ys
+numerator : (ys : List Stored) → productOfWorths ys .num ≡ productOf units ys
 numerator [] = refl
 numerator (y ∷ ys) = ap (λ (z : ℕ). units y * z) (numerator ys)
 
-denominator : (ys : List Stored) → product ys .den ≡ 2 ^ (137 * length ys)
+denominator : (ys : List Stored) → productOfWorths ys .den ≡ 2 ^ (137 * length ys)
 denominator [] = refl
 denominator (y ∷ ys) =
     let e : 137 * suc (length ys) ≡ 137 + 137 * length ys = omega arith in
@@ -82,7 +86,7 @@ module _ (s l : ℕ) (rounded : (M : ℕ) → IsMantissa M → Rounded s l M) wh
         q = total raisedSteps ys / length ys
 
         P : Frac
-        P = power (product ys) (256 * s)
+        P = power (productOfWorths ys) (256 * s)
 
         -- the exponents as differences
         scaled : (f : ℤ → ℤ) (a b : ℕ) → f (subℕ (q * s) (34816 * s)) ≡ subℕ a b
@@ -91,14 +95,16 @@ module _ (s l : ℕ) (rounded : (M : ℕ) → IsMantissa M → Rounded s l M) wh
             ap (λ z. f z *ℤ pos N) (ap (λ z. z *ℤ pos s) (average-is ys n) ∙ sub-times q 34816 s)
             ∙ ap (λ z. z *ℤ pos N) e ∙ sub-times a b N
 
-        low : 2 ^ (q * s * N) * power (product ys) (256 * s) .den ≤ 2 ^ ((34816 * s + below) * N) * power (product ys) (256 * s) .num
+        low : 2 ^ (q * s * N) * productOfWorths ys .den ^ (256 * s)
+            ≤ 2 ^ ((34816 * s + below) * N) * productOfWorths ys .num ^ (256 * s)
         low = rw (numerator ys, denominator ys, pow-mul, ← pow-add 2 (q * s * N), exponent, pow-add)
             (mul-le-mul-left (2 ^ ((34816 * s + below) * N)) (mean-low units (256 * s) raisedSteps s l ys (every-map worth-low ys h)))
           where
             exponent : q * s * N + 137 * N * (256 * s) ≡ (34816 * s + below) * N + (s * q + l) * N
             exponent = omega (arith, ap (λ (x : ℕ). N * x) b)
 
-        high : 2 ^ (34816 * s * N) * power (product ys) (256 * s) .num < 2 ^ ((q * s + above) * N) * power (product ys) (256 * s) .den
+        high : 2 ^ (34816 * s * N) * productOfWorths ys .num ^ (256 * s)
+            < 2 ^ ((q * s + above) * N) * productOfWorths ys .den ^ (256 * s)
         high = rw (numerator ys, denominator ys, pow-mul, ← pow-add 2 ((q * s + above) * N), exponent) (rw pow-add
             (mul-lt-mul-of-pos-left (mean-high units (256 * s) raisedSteps s l ys (every-map worth-high ys h) n) (pow-pos (34816 * s * N))))
           where
@@ -112,5 +118,17 @@ rounded-down M m =
     let f : 1 * (logOf M + 1) + 256 ≡ suc (logOf M) + 256 = omega arith in
     record { low = rw e (log-below M m); high = rw f (log-above M m) }
 
+-- what is reported is the average of at least one luminance
+reported : (n : ℕ) (z A : ℤ) (average : Stored) → averageOf n z ≡ Present A average → (0 < n) × (floorDiv z n ≡ A)
+unfolding averageOf
+reported n z A average = by (eqb n 0) refl
+  where
+    by : (b : Bool) → eqb n 0 ≡ b → cond b Absent (Present (floorDiv z n) (storedAverage (floorDiv z n))) ≡ Present A average
+        → (0 < n) × (floorDiv z n ≡ A)
+    by true q e = let clash : suc zero ≡ zero = cc in (omega arith, cc)
+    by false q e = (pos-of-ne-zero (eqb-false n 0 q), cc)
+
 pub mean-bound : MeanIsBounded
-mean-bound ys h n = mean-within 1 256 rounded-down _ _ refl refl ys h n
+mean-bound ys h A average e =
+    let r = reported (length ys) (sumOf ys) A average e in
+    subst (λ z. MeanBound z ys) (r .1) (mean-within 1 256 rounded-down _ _ refl refl ys h (r .0))

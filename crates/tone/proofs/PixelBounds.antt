@@ -9,7 +9,7 @@ use Rattle.tone.proofs.Luminances.{luminance-range, luminance-stores}
 use Rattle.tone.proofs.Scaled.{is-scaled, scaled-stores}
 
 pub level-bound : LevelIsBounded
-level-bound p y c K a valid e _ key average =
+level-bound p valid y e c _ K key a average =
     let range = luminance-range p valid y e in
     pixel-bound reinhard reinhard-ratio K a y _ _ p c (near (luminance-stores p valid y e))
     (near (scaled-stores K y a key range average)) (near (display-stores _ (is-scaled K y a key range average)))

@@ -23,7 +23,7 @@ use native.Mathlib.Nat.{
 }
 use Rattle.number.proofs.Laws.{Frac, Equal}
 use Rattle.tone.specs.Claims.{WithinHalves}
-use Rattle.tone.specs.Fractions.{nearest}
+use Rattle.tone.specs.Fractions.{nearestWhole, atMost255}
 use Rattle.tone.proofs.Close.{Close}
 
 -- (a − b)(d − c) ≥ 0, multiplied out
@@ -64,28 +64,28 @@ module _ (h a b : ℕ) (x v : Frac) (factor : b ≤ a) (room : 511 * a < h * a +
         mul-lt-mul-of-pos-left room pos,
       ))
 
-  rounds : WithinHalves h (min 255 (nearest x)) v
+  rounds : WithinHalves h (min 255 (nearestWhole x)) (atMost255 v)
   rounds =
       record {
-        above = above (min 255 (nearest x)) (min-le-left 255 _)
-            (le-trans (mul-le-mul-right (2 * x .den) (min-le-right 255 (nearest x))) (div-mul-le-self _ (2 * x .den)));
-        below = by-cap (eq-or-lt-of-le (min-le-left 255 (nearest x)));
+        high = above (min 255 (nearestWhole x)) (min-le-left 255 _)
+            (le-trans (mul-le-mul-right (2 * x .den) (min-le-right 255 (nearestWhole x))) (div-mul-le-self _ (2 * x .den)));
+        low = by-cap (eq-or-lt-of-le (min-le-left 255 (nearestWhole x)));
       }
     where
-      by-cap : (min 255 (nearest x) ≡ 255) ⊎ (min 255 (nearest x) < 255)
-          → 2 * min (v .num) (255 * v .den) < 2 * (min 255 (nearest x) * v .den) + h * v .den
+      by-cap : (min 255 (nearestWhole x) ≡ 255) ⊎ (min 255 (nearestWhole x) < 255)
+          → 2 * min (v .num) (255 * v .den) < 2 * (min 255 (nearestWhole x) * v .den) + h * v .den
       by-cap (inl e) = rw e (omega (arith, some))
       by-cap (inr l) =
-          let k : nearest x ≤ 255 = omega arith in
+          let k : nearestWhole x ≤ 255 = omega arith in
           rw (min-eq-right k) (below _ _ (min-le-left _ _) (min-le-right _ _) (lt-div-mul-add (omega arith)))
 
 pub rounded : (h n : ℕ) (x v : Frac) → 511 * 256 ^ n < h * 256 ^ n + 510 * 255 ^ n → 0 < x .den → 0 < v .den
-    → Close n x v → WithinHalves h (min 255 (nearest x)) v
+    → Close n x v → WithinHalves h (min 255 (nearestWhole x)) (atMost255 v)
 rounded h n x v room px pv c =
     rounds h (256 ^ n) (255 ^ n) x v (pow-le-pow-left (omega arith) n) room px pv (c .above .cross) (c .below .cross)
 
 -- the nearest whole number is that of the value, and not of the fraction that gives it
-pub nearest-equal : (x y : Frac) → 0 < x .den → 0 < y .den → Equal x y → nearest x ≡ nearest y
+pub nearest-equal : (x y : Frac) → 0 < x .den → 0 < y .den → Equal x y → nearestWhole x ≡ nearestWhole y
 nearest-equal x y px py e =
     sym (mul-div-mul-right (2 * x .num + x .den) (2 * x .den) py)
     ∙ quotients (omega (arith, e .cross)) (omega arith)

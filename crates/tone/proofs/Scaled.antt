@@ -26,17 +26,16 @@ use Rattle.number.proofs.Laws.{
 }
 use Rattle.number.specs.declared.ratio.Stored.{Stored}
 use Rattle.tone.specs.Fractions.{_·_}
-use Rattle.tone.specs.Levels.{IsKey, IsStoredAverage, keyOver, scaledOf, IsScaled}
-use Rattle.tone.specs.Pixels.{worthIn, IsLuminance}
-use Rattle.tone.specs.Ratios.{unitRatio, Storable}
-use Rattle.tone.proofs.Storables.{StoresAs, stored-alike, storable-stores}
+use Rattle.tone.specs.Levels.{IsKey, IsStoredAverage, keyOverAverage, scaledOf, IsScaled, storedWorth}
+use Rattle.tone.specs.Pixels.{IsLuminance}
+use Rattle.tone.proofs.Storables.{unitRatio, Storable, StoresAs, stored-alike, storable-stores}
 
 module _ (K : ℕ) (y a : Stored) (key : IsKey K) (luminance : IsLuminance y) (average : IsStoredAverage a) where
   abbrev ratio : Frac
   ratio = unitRatio (K * (2 * y .mantissa + 1)) (1000 * (2 * a .mantissa + 1)) (137 + y .exponent - a .exponent)
 
   abbrev exact : Frac
-  exact = keyOver K a · worthIn y
+  exact = keyOverAverage K a · storedWorth y
 
   equal : Equal ratio exact
   equal =

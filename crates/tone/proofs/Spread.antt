@@ -51,25 +51,25 @@ module _ {X : Type 0} where
   total f [] = 0
   total f (x ∷ xs) = f x + total f xs
 
-  abbrev pub times : (X → ℕ) → List X → ℕ
-  times f [] = 1
-  times f (x ∷ xs) = f x * times f xs
+  abbrev pub productOf : (X → ℕ) → List X → ℕ
+  productOf f [] = 1
+  productOf f (x ∷ xs) = f x * productOf f xs
 
   pub every-map : {P Q : X → Type 0} → ((x : X) → P x → Q x) → (xs : List X) → Every P xs → Every Q xs
   every-map f [] h = tt
   every-map f (x ∷ xs) h = (f x (h .0), every-map f xs (h .1))
 
 module _ {X : Type 0} (worth : X → ℕ) (p : ℕ) where
-  low : (e : X → ℕ) (xs : List X) → Every (λ x. 2 ^ e x ≤ worth x ^ p) xs → 2 ^ total e xs ≤ times worth xs ^ p
+  low : (e : X → ℕ) (xs : List X) → Every (λ x. 2 ^ e x ≤ worth x ^ p) xs → 2 ^ total e xs ≤ productOf worth xs ^ p
   low e [] h = rw one-pow (le-refl 1)
   low e (x ∷ xs) h = rw (pow-add, mul-pow) (mul-le-mul (h .0) (low e xs (h .1)))
 
-  high : (e : X → ℕ) (xs : List X) → Every (λ x. worth x ^ p < 2 ^ e x) xs → times worth xs ^ p ≤ 2 ^ total e xs
+  high : (e : X → ℕ) (xs : List X) → Every (λ x. worth x ^ p < 2 ^ e x) xs → productOf worth xs ^ p ≤ 2 ^ total e xs
   high e [] h = rw one-pow (le-refl 1)
   high e (x ∷ xs) h = rw (pow-add, mul-pow) (mul-le-mul (le-of-lt (h .0)) (high e xs (h .1)))
 
   high-strict : (e : X → ℕ) (xs : List X) → Every (λ x. worth x ^ p < 2 ^ e x) xs → 0 < length xs
-      → times worth xs ^ p < 2 ^ total e xs
+      → productOf worth xs ^ p < 2 ^ total e xs
   high-strict e [] h n = absurd (not-suc-le-zero n)
   high-strict e (x ∷ xs) h n = rw (pow-add, mul-pow) (mul-lt-mul (h .0) (high e xs (h .1)) (pow-pos (total e xs)))
 
@@ -82,13 +82,13 @@ module _ {X : Type 0} (worth : X → ℕ) (p : ℕ) where
     linear k (x ∷ xs) = omega (arith, linear k xs)
 
     pub mean-low : (xs : List X) → Every (λ x. 2 ^ (s * (step x + 0) + l) ≤ worth x ^ p) xs
-        → 2 ^ ((s * (total step xs / length xs) + l) * length xs) ≤ times worth xs ^ p
+        → 2 ^ ((s * (total step xs / length xs) + l) * length xs) ≤ productOf worth xs ^ p
     mean-low xs h =
         le-trans (pow-mono (omega (arith, linear 0 xs, mul-le-mul-left s (div-mul-le-self (total step xs) (length xs)))))
         (low _ xs h)
 
     pub mean-high : (xs : List X) → Every (λ x. worth x ^ p < 2 ^ (s * (step x + 1) + l)) xs → 0 < length xs
-        → times worth xs ^ p < 2 ^ ((s * (total step xs / length xs + 2) + l) * length xs)
+        → productOf worth xs ^ p < 2 ^ ((s * (total step xs / length xs + 2) + l) * length xs)
     mean-high xs h n =
         lt-of-lt-of-le (high-strict _ xs h n)
         (pow-mono (omega (arith, linear 1 xs, mul-le-mul-left s (le-of-lt (lt-div-mul-add {a = total step xs} n)))))

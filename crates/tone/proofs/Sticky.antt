@@ -1,5 +1,5 @@
--- Sums cut from below, with one sticky bit that tells whether anything was cut off: how a term is added to one, and that it is stored as
--- the whole sum. Assumes nothing.
+-- Sums cut from below, with one sticky bit that tells whether anything was cut off: how a term is added to one, and that it is stored
+-- as the whole sum. Assumes nothing.
 use mathlib.Core.Path.{_≡_, sym, ap, ap₂, _∙_, subst}
 use Prim.Native.Nat.{ℕ, zero, suc, _+_, _-_, _*_, _/_, _%_, _^_, _≤_, _<_, min}
 use native.Mathlib.Nat.{

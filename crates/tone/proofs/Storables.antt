@@ -1,9 +1,17 @@
 -- A ratio that fits, and every fraction equal to it: what is stored of them. Assumes nothing.
 use mathlib.Core.Path.{_≡_, sym, subst}
-use Prim.Native.Nat.{_<_}
-use Rattle.number.proofs.Laws.{Frac, Equal, Stores, storedOf, in-range, scales-equal, stored-as}
+use Prim.Native.Nat.{ℕ, _*_, _^_, _<_}
+use Rattle.number.proofs.Laws.{Frac, _over_, Equal, Stores, unit, storedOf, ratioOf, in-range, scales-equal, stored-as}
 use Rattle.number.specs.declared.ratio.Stored.{Stored}
-use Rattle.tone.specs.Ratios.{Storable}
+use Rattle.number.specs.declared.ratio.StoredRatio.the-variants.{InRange}
+
+-- num / den · 2^exp in units of 2^-137
+abbrev pub unitRatio : (num den exp : ℕ) → Frac
+unitRatio num den exp = num * 2 ^ exp over den * unit
+
+-- F has a stored number with an exponent of eight bits
+pub record Storable (F : Frac) : Type 0 where
+  pub in-range : ratioOf F ≡ InRange (storedOf F)
 
 -- F is stored as s
 abbrev pub StoresAs : Frac → Stored → Type 0

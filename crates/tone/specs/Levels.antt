@@ -1,10 +1,9 @@
 -- Steps 4 to 6: scaled luminance, display luminance, level. Assumes nothing.
 use Prim.Native.Nat.{ℕ, _+_, _≤_, min}
-use Rattle.number.proofs.Laws.{Frac, _over_, IsMantissa, worthOf, storedOf}
+use Rattle.number.proofs.Laws.{Frac, _over_, IsMantissa, worth, worthOf, storedOf}
 use Rattle.number.specs.declared.channel.Channel.{Channel}
 use Rattle.number.specs.declared.ratio.Stored.{Stored}
-use Rattle.tone.specs.Fractions.{_·_, _÷_, _•_, nearest}
-use Rattle.tone.specs.Pixels.{worthIn}
+use Rattle.tone.specs.Fractions.{_·_, _÷_, _times_, nearestWhole}
 
 -- "K is 0 or above 1,000" is refused
 pub record IsKey (K : ℕ) : Type 0 where
@@ -17,13 +16,17 @@ pub record IsStoredAverage (a : Stored) : Type 0 where
   pub most : a .exponent ≤ 184
   pub mantissa : IsMantissa (a .mantissa)
 
--- K/1000 over the average
-abbrev pub keyOver : ℕ → Stored → Frac
-keyOver K a = (K over 1000) ÷ worthIn a
+-- what a stored number is worth
+abbrev pub storedWorth : Stored → Frac
+storedWorth s = worth (s .exponent) (s .mantissa)
+
+-- K/1000 over the average, decoded
+abbrev pub keyOverAverage : ℕ → Stored → Frac
+keyOverAverage K average = (K over 1000) ÷ storedWorth average
 
 -- "Scaled luminance: K/1000 times luminance over average (both decoded), stored."
-abbrev pub scaledOf : (K : ℕ) (y a : Stored) → Stored
-scaledOf K y a = storedOf (keyOver K a · worthIn y)
+abbrev pub scaledOf : (K : ℕ) (y average : Stored) → Stored
+scaledOf K y average = storedOf (keyOverAverage K average · storedWorth y)
 
 -- "E is 1 to 246."
 pub record IsScaled (l : Stored) : Type 0 where
@@ -35,14 +38,18 @@ pub record IsScaled (l : Stored) : Type 0 where
 abbrev pub reinhard : Frac → Frac
 reinhard L = L .num over L .den + L .num
 
--- "Display luminance: L/(1+L) over the decoded L, stored", by the curve that stands for L/(1+L)
+-- "Display luminance: L/(1+L) over the decoded L, stored"; `curve` is L/(1+L) as a function of L
 abbrev pub displayOf : (curve : Frac → Frac) → Stored → Stored
-displayOf curve l = storedOf (curve (worthIn l))
+displayOf curve l = storedOf (curve (storedWorth l))
 
--- 255 times a share of full brightness, "to the nearest whole number, halves up, at most 255"
+-- 255 times x, "to the nearest whole number, halves up, at most 255"
 abbrev pub toLevel : Frac → ℕ
-toLevel x = min 255 (nearest (255 • x))
+toLevel x = min 255 (nearestWhole (255 times x))
 
 -- "Level of a channel: 255 × display luminance × channel / luminance, all decoded .. Black gives 0."
 unfoldable pub levelOf : (display : Stored) (channel : Channel) (luminance : Stored) → ℕ
-levelOf d c y = toLevel (worthIn d · worthOf c ÷ worthIn y)
+levelOf d c y = toLevel (storedWorth d · worthOf c ÷ storedWorth y)
+
+-- steps 4 to 6 of a channel c in a pixel of luminance y, under a key and a stored average
+abbrev pub mappedLevel : (curve : Frac → Frac) (K : ℕ) (average y : Stored) (c : Channel) → ℕ
+mappedLevel curve K average y c = levelOf (displayOf curve (scaledOf K y average)) c y

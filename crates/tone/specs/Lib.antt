@@ -1,5 +1,4 @@
 pub mod Fractions
-pub mod Ratios
 pub mod Pixels
 pub mod Tables
 pub mod Averages

@@ -11,14 +11,15 @@ unfoldable pub greatest : (ℕ → Bool) → ℕ → ℕ
 greatest test zero = zero
 greatest test (suc n) = cond (test (suc n)) (suc n) (greatest test n)
 
--- "T[M] is 256 · log2(M + 1/2) rounded down, that is, the greatest t with 2^(t+256) ≤ (2M+1)^256"; no M up to 255 has a t above 2047
+-- "T[M] is 256 · log2(M + 1/2) rounded down, that is, the greatest t with 2^(t+256) ≤ (2M+1)^256", for M from 1. No M up to 255 has
+-- a t above 2047.
 unfoldable pub logTest : (M t : ℕ) → Bool
 logTest M t = leb (2 ^ (t + 256)) ((2 * M + 1) ^ 256)
 
 unfoldable pub logOf : ℕ → ℕ
 logOf M = greatest (logTest M) 2047
 
--- "X[f] the greatest m with m^256 ≤ 2^(1792+f)"; no f up to 255 has an m above 255
+-- "X[f] the greatest m with m^256 ≤ 2^(1792+f)". No f up to 255 has an m above 255.
 unfoldable pub rootTest : (f m : ℕ) → Bool
 rootTest f m = leb (m ^ 256) (2 ^ (1792 + f))
 

@@ -7,11 +7,12 @@ use Rattle.number.specs.declared.ratio.Stored.{Stored}
 use Rattle.tone.specs.Averages.{stepsOf}
 use Rattle.tone.specs.declared.tally.Tally.{Tally}
 
+-- the sum of their steps
 unfoldable pub sumOf : List Stored → ℤ
 sumOf [] = pos 0
 sumOf (y ∷ ys) = stepsOf y +ℤ sumOf ys
 
--- N and "the sum of steps (0 if N = 0)"
+-- N and "the sum of steps (0 if N = 0)"; A and the stored average follow from them by `averageOf`
 abbrev pub tallyOf : List Stored → Tally
 tallyOf ys = record { count = length ys; sum = sumOf ys }
 

@@ -2,7 +2,7 @@
 ghost use mathlib.Core.Path.{_≡_};
 ghost use lib.IntN.{pos, natAbs, _+ℤ_};
 ghost use lib.Signed.{_≤ℤ_};
-ghost use Rattle.tone.specs.Averages.{storedAverage, averageOf, IsSum, IsAverage};
+ghost use Rattle.tone.specs.Averages.{storedAverage, averageOf, IsAverage, HasAverage};
 use crate::floor::floor_div;
 use crate::floor::floor_mod;
 use crate::tables::root;
@@ -23,7 +23,7 @@ fn exponent(q: i64, bias: i64) -> u8
 }
 
 // The stored average of A = 256q + f steps.
-pub fn stored_average(steps: i64) -> Stored
+fn stored_average(steps: i64) -> Stored
     requires { ⌜ IsAverage steps ⌝ }
     ensures { λ r. ⌜ r ≡ storedAverage steps ⌝ }
 {
@@ -43,7 +43,7 @@ pub fn stored_average(steps: i64) -> Stored
 
 // The average of `count` luminances whose steps add up to `sum`.
 pub fn average_of(count: u64, sum: i64) -> Average
-    requires { ⌜ IsSum count sum ⌝ }
+    requires { ⌜ HasAverage count sum ⌝ }
     ensures { λ r. ⌜ r ≡ averageOf count sum ⌝ }
 {
     if count == 0 {

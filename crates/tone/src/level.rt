@@ -2,15 +2,15 @@
 ghost use mathlib.Core.Path.{_≡_};
 ghost use Prim.Native.Nat.{_*_, _^_, _≤_, _<_, min};
 ghost use Rattle.number.proofs.Laws.{_over_, unit, storedOf};
-ghost use Rattle.tone.specs.Fractions.{nearest};
+ghost use Rattle.tone.specs.Fractions.{nearestWhole};
 ghost use Rattle.tone.specs.Levels.{IsKey, IsStoredAverage, scaledOf, IsScaled, reinhard, displayOf, levelOf};
 ghost use Rattle.tone.specs.Pixels.{IsLuminance};
 use crate::ratio::stored_ratio;
 use number::channel::Channel;
 use number::ratio::Stored;
 
-// Step 4: the key's share of luminance over average.
-pub fn scaled_luminance(key: u64, luminance: Stored, average: Stored) -> Stored
+// Step 4: K/1000 times luminance over average.
+fn scaled_luminance(key: u64, luminance: Stored, average: Stored) -> Stored
     requires { ⌜ IsKey key × IsLuminance luminance × IsStoredAverage average ⌝ }
     ensures { λ r. ⌜ r ≡ scaledOf key luminance average ⌝ }
 {
@@ -45,13 +45,13 @@ fn divided(value: u64, exponent: u64) -> Stored
     stored_ratio(whole, 1 + whole, 137)
 }
 
-// The exponents of scaled luminances that are divided. Below, 1 + L stands for 1, and above, for L.
+// Outside of these exponents, L / (1 + L) is stored as L itself, or as (128,255).
 const LEAST_DIVIDED: u8 = 74;
 
 const GREATEST_DIVIDED: u8 = 191;
 
 // Step 5: L / (1 + L).
-pub fn display_luminance(scaled: Stored) -> Stored
+fn display_luminance(scaled: Stored) -> Stored
     requires { ⌜ IsScaled scaled ⌝ }
     ensures { λ r. ⌜ r ≡ displayOf reinhard scaled ⌝ }
 {
@@ -78,7 +78,7 @@ pub fn display(key: u64, luminance: Stored, average: Stored) -> Stored
 // num / den to the nearest whole number, halves up, at most 255.
 fn nearest_level(num: u64, den: u64) -> u8
     requires { ⌜ (num < 2 ^ 62) × (0 < den) × (den < 2 ^ 62) ⌝ }
-    ensures { λ r. ⌜ r ≡ min 255 (nearest (num over den)) ⌝ }
+    ensures { λ r. ⌜ r ≡ min 255 (nearestWhole (num over den)) ⌝ }
 {
     let level = (2 * num + den) / (2 * den);
     if level < 255 { level as u8 } else { 255 }
@@ -87,7 +87,7 @@ fn nearest_level(num: u64, den: u64) -> u8
 // num * 2^up / (den * 2^down), likewise. Nine places are enough to reach 255, and 27 to reach 0.
 fn scaled_level(num: u64, up: u64, den: u64, down: u64) -> u8
     requires { ⌜ (255 ≤ num) × (num < 2 ^ 26) × (1 ≤ den) × (den ≤ 511) × (up ≤ 510) × (down ≤ 392) ⌝ }
-    ensures { λ r. ⌜ r ≡ min 255 (nearest (num * 2 ^ up over den * 2 ^ down)) ⌝ }
+    ensures { λ r. ⌜ r ≡ min 255 (nearestWhole (num * 2 ^ up over den * 2 ^ down)) ⌝ }
 {
     if down + 9 <= up {
         return 255;

@@ -51,7 +51,7 @@ fn shift_jam(t: u64, k: u64) -> u64
     if q << k == t { 2 * q } else { 2 * q + 1 }
 }
 
-// The sum of the terms so far, cut at an exponent `gap` below that of a further term, and that term. 24 places are kept below its own.
+// A term added to a cut sum whose exponent is `gap` lower. The outcome counts 2^-25 of the term's unit; its last bit is sticky.
 fn add_term(sum: u64, gap: u64, value: u64) -> u64
     requires { ⌜ (sum < 2 ^ 62) × (gap ≤ 184) × (value ≤ 34237) ⌝ }
     ensures cut { λ r. ⌜ r ≡ 2 * (sum / 2 ^ (gap + 1)) + min 1 (sum % 2 ^ (gap + 1)) + value * 2 ^ 25 ⌝ }

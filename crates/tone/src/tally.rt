@@ -1,10 +1,11 @@
 // Step 2: the steps of a luminance, and the tally of the lit pixels.
+ghost use mathlib.Core.List.{[]};
 ghost use mathlib.Core.Path.{_≡_};
 ghost use Prim.Native.Nat.{_^_, _<_};
 ghost use Rattle.tone.specs.Averages.{stepsOf, IsSum};
 ghost use Rattle.tone.specs.Pixels.{IsLuminance};
 ghost use Rattle.tone.specs.Tables.{IsLogTable};
-ghost use Rattle.tone.specs.Tallies.{withLuminance};
+ghost use Rattle.tone.specs.Tallies.{tallyOf, withLuminance};
 use number::ratio::Stored;
 
 // A tally: how many pixels are lit, and the sum of their steps.
@@ -13,8 +14,15 @@ pub struct Tally {
     pub sum: i64,
 }
 
+// The tally of no luminance.
+pub fn no_luminance() -> Tally
+    ensures { λ r. ⌜ r ≡ tallyOf [] ⌝ }
+{
+    Tally { count: 0, sum: 0 }
+}
+
 // The steps of a luminance, 256(E - 136) + T[M].
-pub fn steps(logs: &[u16; 128], luminance: Stored) -> i64
+fn steps(logs: &[u16; 128], luminance: Stored) -> i64
     requires { ⌜ IsLogTable (now logs) × IsLuminance luminance ⌝ }
     ensures { λ r. ⌜ r ≡ stepsOf luminance ⌝ }
 {

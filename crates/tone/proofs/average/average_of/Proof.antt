@@ -6,7 +6,6 @@ use mir.Facts.{toZ-ofZ}
 use borrow.Author.Needs.{needs, sfits-of}
 use borrow.Author.Tests.{ne-eqb}
 use Rattle.tone.specs.Averages.{floorDiv, averageOf}
-use Rattle.tone.proofs.Averages.{average-in-range}
 use Rattle.tone.proofs.average.average_of.Statement.{statement}
 use Rattle.tone.proofs.average.average_of.Tie as tie
 
@@ -21,7 +20,7 @@ unfolding averageOf
 returns c = rw (c .if1 .taken)
 
 stored-average-requires : tie.Need-stored-average-requires
-stored-average-requires c κs = rw (got c) (average-in-range (search needs) (c .before .before .pre))
+stored-average-requires c κs = rw (got c) (c .before .before .pre .in-range (search needs))
 
 returns-2 : tie.Need-returns-2
 unfolding averageOf

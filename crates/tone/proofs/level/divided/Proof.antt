@@ -30,10 +30,10 @@ divided-spec =
     (tie.spec
     (λ c κs. (omega arith, single (137 - c .before .args .exponent) (omega arith)))
     (λ c. omega (arith, below c .0))
-    (λ c κs. below c .1 .storable)
+    (λ c κs. below c .1 .storable .in-range)
     (λ c. c .stored-ratio .ensures ∙ below (c .before) .1 .same)
     (λ c. search needs)
     (λ c κs. (omega arith, small (c .before .args .value) (c .before .args .exponent - 137) (omega arith) (omega arith)))
     (λ c. omega (arith, above c .0))
-    (λ c κs. above c .1 .storable)
+    (λ c κs. above c .1 .storable .in-range)
     (λ c. c .stored-ratio2 .ensures ∙ above (c .before) .1 .same))

@@ -17,7 +17,8 @@ small v s h k = mul-le-mul {n₂ = 2 ^ 26} h (pow-mono {j = 26} k)
 up : (c : tie.Then3) → let x = c .before .before .before .args in x .num * 2 ^ (x .up - x .down) ≤ 2 ^ 52
 up c = small _ _ (omega arith) (omega arith)
 
-down : (c : tie.Else3) → let x = c .before .before .before .args in (0 < x .den * 2 ^ (x .down - x .up)) × (x .den * 2 ^ (x .down - x .up) ≤ 2 ^ 52)
+down : (c : tie.Else3) → let x = c .before .before .before .args in
+    (0 < x .den * 2 ^ (x .down - x .up)) × (x .den * 2 ^ (x .down - x .up) ≤ 2 ^ 52)
 down c = (mul-pos (omega arith) (pow-pos _), small _ _ (omega arith) (omega arith))
 
 pub scaled-level-spec : {M : Type 1} → statement M

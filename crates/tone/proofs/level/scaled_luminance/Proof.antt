@@ -13,7 +13,7 @@ mul-stored-ratio-2 c =
 
 stored-ratio-requires : tie.Need-stored-ratio-requires
 stored-ratio-requires c κs =
-    let p = c .before .before .before .before .pre in scaled-storable _ _ _ (p .0) (p .1) (p .2)
+    let p = c .before .before .before .before .pre in scaled-storable _ _ _ (p .0) (p .1) (p .2) .in-range
 
 returns : tie.Need-returns
 returns c =

@@ -3,7 +3,7 @@ use mathlib.Core.Path.{_∙_}
 use Prim.Native.Nat.{_-_}
 use native.Mathlib.Omega.{arith}
 use borrow.Author.Needs.{needs}
-use Rattle.tone.specs.Ratios.{unitRatio, Storable}
+use Rattle.tone.proofs.Storables.{unitRatio, Storable}
 use Rattle.tone.proofs.Sticky.{jamOf}
 use Rattle.tone.proofs.CutSums.{cut-storable, sorted-stored}
 use Rattle.tone.proofs.luminance.store_sorted.Statement.{statement}
@@ -28,4 +28,4 @@ pub store-sorted-spec : {M : Type 1} → statement M
 store-sorted-spec =
     tie.close
     (tie.spec (λ c. search needs) (λ c. search needs) (λ c κs. search needs) (λ c. search needs) (λ c κs. omega arith)
-    (λ c. search needs) (λ c. search needs) (λ c κs. storable c) returns)
+    (λ c. search needs) (λ c. search needs) (λ c κs. storable c .in-range) returns)
