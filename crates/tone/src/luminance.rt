@@ -21,6 +21,7 @@ struct Term {
     exponent: u64,
 }
 
+// The exponent of a black channel's part is 0.
 fn weigh(channel: Channel, weight: u64) -> Term
     requires { ⌜ IsChannel channel × (1 ≤ weight) × (weight ≤ 67) ⌝ }
     ensures worth { λ r. ⌜ r .value * 2 ^ r .exponent ≡ weight * worthOf channel .num ⌝ }
@@ -51,13 +52,16 @@ fn shift_jam(t: u64, k: u64) -> u64
     if q << k == t { 2 * q } else { 2 * q + 1 }
 }
 
-// A term added to a cut sum whose exponent is `gap` lower. The outcome counts 2^-25 of the term's unit; its last bit is sticky.
+// 2^25: a cut sum has 24 places below the unit of its last term, and the sticky bit behind them.
+const TERM_UNIT: u64 = 33554432;
+
+// A term added to a cut sum whose exponent is `gap` lower.
 fn add_term(sum: u64, gap: u64, value: u64) -> u64
     requires { ⌜ (sum < 2 ^ 62) × (gap ≤ 184) × (value ≤ 34237) ⌝ }
     ensures cut { λ r. ⌜ r ≡ 2 * (sum / 2 ^ (gap + 1)) + min 1 (sum % 2 ^ (gap + 1)) + value * 2 ^ 25 ⌝ }
     ensures bounds { λ r. ⌜ (value * 2 ^ 25 ≤ r) × (r ≤ sum + 1 + value * 2 ^ 25) ⌝ }
 {
-    shift_jam(sum, gap + 1) + value * 33554432
+    shift_jam(sum, gap + 1) + value * TERM_UNIT
 }
 
 // A hundredth of the sum of three terms, from the largest exponent to the smallest.
@@ -66,7 +70,7 @@ fn store_sorted(a: Term, b: Term, c: Term) -> Stored
     requires { ⌜ (24 ≤ a .exponent) × (a .exponent ≤ 184) × (b .exponent ≤ a .exponent) × (c .exponent ≤ b .exponent) ⌝ }
     ensures { λ r. ⌜ r ≡ storedOf (a .value * 2 ^ a .exponent + b .value * 2 ^ b .exponent + c .value * 2 ^ c .exponent over 100 * unit) ⌝ }
 {
-    let low = add_term(c.value * 33554432, b.exponent - c.exponent, b.value);
+    let low = add_term(c.value * TERM_UNIT, b.exponent - c.exponent, b.value);
     let sum = add_term(low, a.exponent - b.exponent, a.value);
     stored_ratio(sum, 200, (a.exponent - 24) as u16)
 }
