@@ -34,21 +34,27 @@ use Rattle.tone.specs.declared.luminance.Luminance.{Luminance}
 use Rattle.tone.specs.declared.luminance.Luminance.the-variants.{Unlit}
 use Rattle.tone.proofs.Storables.{StoresAs}
 
+-- by the three tests
+abbrev told : (p : Pixel) (r g b : Bool) → Luminance
+told p r g b = cond (r && g && b) Unlit (Luminance.Lit (storedOf (exactLuminance p)))
+
+by-tests : (p : Pixel) → luminanceOf p ≡ told p (isBlack (p .red)) (isBlack (p .green)) (isBlack (p .blue))
+unfolding luminanceOf
+by-tests p = refl
+
 -- by numbers that are 0 for black channels only
 module _ (p : Pixel) (e e′ e″ : ℕ) (red : isBlack (p .red) ≡ eqb e 0) (green : isBlack (p .green) ≡ eqb e′ 0)
     (blue : isBlack (p .blue) ≡ eqb e″ 0) where
   pub unlit : e + e′ + e″ ≡ 0 → luminanceOf p ≡ Unlit
-  unfolding luminanceOf
   unlit h =
       let z : e ≡ 0 = omega arith in let z′ : e′ ≡ 0 = omega arith in let z″ : e″ ≡ 0 = omega arith in
-      rw (red, green, blue, z, z′, z″)
+      by-tests p ∙ rw (red, green, blue, z, z′, z″)
 
   lit : (e + e′ + e″ ≡ 0 → ⊥) → luminanceOf p ≡ Luminance.Lit (storedOf (exactLuminance p))
-  unfolding luminanceOf
-  lit h = rw (red, green, blue) (by (eqb e 0) (eqb e′ 0) (eqb e″ 0) refl refl refl)
+  lit h = by-tests p ∙ rw (red, green, blue) (by (eqb e 0) (eqb e′ 0) (eqb e″ 0) refl refl refl)
     where
       by : (a b c : Bool) → eqb e 0 ≡ a → eqb e′ 0 ≡ b → eqb e″ 0 ≡ c
-          → cond (a && b && c) Unlit (Luminance.Lit (storedOf (exactLuminance p))) ≡ Luminance.Lit (storedOf (exactLuminance p))
+          → told p a b c ≡ Luminance.Lit (storedOf (exactLuminance p))
       by true true true z z′ z″ = absurd (h (omega (arith, eqb-true e 0 z, eqb-true e′ 0 z′, eqb-true e″ 0 z″)))
       by true true false z z′ z″ = refl
       by true false c z z′ z″ = refl
@@ -83,11 +89,10 @@ module _ (p : Pixel) (valid : IsPixel p) where
 
   -- a lit pixel has a lit channel
   lit-channel : (y : Stored) → luminanceOf p ≡ Luminance.Lit y → (6 * (257 * 2 ^ 72) ≤ sum) × (y ≡ storedOf (exactLuminance p))
-  unfolding luminanceOf
-  lit-channel y = by (isBlack (p .red)) (isBlack (p .green)) (isBlack (p .blue)) refl refl refl
+  lit-channel y e = by (isBlack (p .red)) (isBlack (p .green)) (isBlack (p .blue)) refl refl refl (sym (by-tests p) ∙ e)
     where
       by : (r g b : Bool) → isBlack (p .red) ≡ r → isBlack (p .green) ≡ g → isBlack (p .blue) ≡ b
-          → cond (r && g && b) Unlit (Luminance.Lit (storedOf (exactLuminance p))) ≡ Luminance.Lit y
+          → told p r g b ≡ Luminance.Lit y
           → (6 * (257 * 2 ^ 72) ≤ sum) × (y ≡ storedOf (exactLuminance p))
       by true true true r g b e = let clash : suc zero ≡ zero = cc in (omega arith, cc)
       by true true false r g b e = (omega (arith, channel-least (p .blue) (valid .blue) b), cc)
