@@ -95,7 +95,8 @@ dark l h m =
         (omega (arith, mul-lt-mul-of-pos-right c p))
 
 -- a bright one is white
-pub bright : (l : Stored) → 191 < l .exponent → IsMantissa (l .mantissa) → record { exponent = 128; mantissa = 255 } ≡ displayOf reinhard l
+pub bright : (l : Stored) → 191 < l .exponent → IsMantissa (l .mantissa)
+    → record { exponent = 128; mantissa = 255 } ≡ displayOf reinhard l
 bright l h m =
     sym (stored-as
     (rescale {i = 0} {j = 0} (record {

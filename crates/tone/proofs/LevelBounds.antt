@@ -68,11 +68,13 @@ module _ (f : Frac → Frac) (S : NeverStretches f) where
 
   -- of a pixel with the stored luminance y, scaled luminance l and display luminance d: the luminance is rounded once, the channel not
   pub pixel-bound : (K : ℕ) (a y l d : Stored) (p : Pixel) (c : Channel)
-      → Near (exactLuminance p) (storedWorth y) → Near (keyOverAverage K a · storedWorth y) (storedWorth l) → Near (f (storedWorth l)) (storedWorth d)
+      → Near (exactLuminance p) (storedWorth y) → Near (keyOverAverage K a · storedWorth y) (storedWorth l)
+      → Near (f (storedWorth l)) (storedWorth d)
       → LevelBound f K a p c (levelOf d c y)
   unfolding levelOf
   pixel-bound K a y l d p c hy hl hd =
-      level-within _ 1 0 (keyOverAverage K a) (exactLuminance p) (storedWorth y) (storedWorth l) (storedWorth d) (worthOf c) (worthOf c) (omega arith)
+      level-within _ 1 0 (keyOverAverage K a) (exactLuminance p) (storedWorth y) (storedWorth l) (storedWorth d) (worthOf c) (worthOf c)
+      (omega arith)
       (mul-pos {m = 1000} (omega arith) (mul-pos (omega arith) (pow-pos (a .exponent)))) (near-pos hy .0) (channel-pos c) (channel-pos c)
       (near-close hy) (near-pos hy .1) (near-close hl) hd unit-pos (close-refl (worthOf c))
     where

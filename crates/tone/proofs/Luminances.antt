@@ -104,7 +104,9 @@ module _ (p : Pixel) (valid : IsPixel p) where
     stores : StoresAs (exactLuminance p) (storedOf (exactLuminance p))
     stores =
         stored (exactLuminance p) 129 (lit≤ tt) pos
-        (record { cross = subst (λ (u : ℕ). 1 * (100 * u) < sum * 2 ^ 129) (sym unit-power) (large (2 ^ 129) sum (pow-pos 129) (omega arith)) })
+        (record {
+          cross = subst (λ (u : ℕ). 1 * (100 * u) < sum * 2 ^ 129) (sym unit-power) (large (2 ^ 129) sum (pow-pos 129) (omega arith));
+        })
       where
         large : (B n : ℕ) → 0 < B → 25601 ≤ n → 1 * (100 * (256 * B)) < n * B
         large B n h k = omega (arith, mul-le-mul-right B k)
@@ -117,7 +119,8 @@ module _ (p : Pixel) (valid : IsPixel p) where
 
     greatest-stores : Stores (worth 184 255) 184 255
     greatest-stores =
-        subst (λ (x : Frac). Stores x 184 255) (sym (worth-scaled 184 255)) (idempotent 128 184 255 (record { least = lit≤ tt; most = lit≤ tt }))
+        subst (λ (x : Frac). Stores x 184 255) (sym (worth-scaled 184 255))
+        (idempotent 128 184 255 (record { least = lit≤ tt; most = lit≤ tt }))
 
     at-most : AtMost (exactLuminance p) (worth 184 255)
     at-most =

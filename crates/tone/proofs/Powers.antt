@@ -1,13 +1,16 @@
--- Powers of two with a difference for exponent, against a fraction. Assumes nothing.
+-- Powers of two: a bound on a shifted number, and powers with a difference for exponent against a fraction. Assumes nothing.
 use mathlib.Core.Path.{_≡_, refl, ap, _∙_}
 use Prim.Native.Nat.{ℕ, suc, _+_, _*_, _^_, _≤_, _<_}
-use native.Mathlib.Nat.{le-of-mul-le-mul-left, lt-of-mul-lt-mul-left}
+use native.Mathlib.Nat.{le-of-mul-le-mul-left, lt-of-mul-lt-mul-left, mul-le-mul}
 use native.Mathlib.Omega.{arith}
 use lib.IntN.{subℕ}
-use lib.Pow.{pow-add, pow-pos}
+use lib.Pow.{pow-add, pow-mono, pow-pos}
 use Rattle.number.proofs.Laws.{Frac, AtMost, Below}
 use Rattle.tone.specs.Claims.{twoToThe}
 use Rattle.tone.proofs.Differences.{sub-pos, sub-neg, sub-cases}
+
+pub shift-most : (v s a b : ℕ) → v ≤ a → s ≤ b → v * 2 ^ s ≤ a * 2 ^ b
+shift-most v s a b h k = mul-le-mul h (pow-mono k)
 
 -- the larger power is the smaller and some places more
 more : (a d : ℕ) → 2 ^ (suc a + d) ≡ 2 ^ a * 2 ^ suc d

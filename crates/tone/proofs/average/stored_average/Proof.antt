@@ -56,4 +56,5 @@ returns-2 c =
 pub stored-average-spec : {M : Type 1} → statement M
 stored-average-spec =
     tie.close
-    (tie.spec (λ c κs. search needs) (λ c κs. search needs) exponent-requires returns exponent-requires-2 cast-root (λ c κs. search needs) returns-2)
+    (tie.spec (λ c κs. search needs) (λ c κs. search needs) exponent-requires returns exponent-requires-2 cast-root
+    (λ c κs. search needs) returns-2)

@@ -1,25 +1,22 @@
 -- `tone::level::scaled_level` meets its contract. Assumes nothing.
 use mathlib.Core.Path.{_∙_}
-use Prim.Native.Nat.{ℕ, _-_, _*_, _^_, _≤_, _<_}
-use native.Mathlib.Nat.{mul-le-mul, mul-pos}
+use Prim.Native.Nat.{_-_, _*_, _^_, _≤_, _<_}
+use native.Mathlib.Nat.{mul-pos}
 use native.Mathlib.Omega.{arith}
 use borrow.Author.Needs.{needs}
-use lib.Pow.{pow-mono, pow-pos}
+use lib.Pow.{pow-pos}
 use Rattle.tone.proofs.LevelSteps.{full, dark, raised, lowered}
+use Rattle.tone.proofs.Powers.{shift-most}
 use Rattle.tone.proofs.level.scaled_level.Statement.{statement}
 use Rattle.tone.proofs.level.scaled_level.Tie as tie
 
--- a shift of at most 26 places
-small : (v s : ℕ) → v ≤ 2 ^ 26 → s ≤ 26 → v * 2 ^ s ≤ 2 ^ 52
-small v s h k = mul-le-mul {n₂ = 2 ^ 26} h (pow-mono {j = 26} k)
-
 -- at most 26 places up, and down
 up : (c : tie.Then3) → let x = c .before .before .before .args in x .num * 2 ^ (x .up - x .down) ≤ 2 ^ 52
-up c = small _ _ (omega arith) (omega arith)
+up c = shift-most _ _ (2 ^ 26) 26 (omega arith) (omega arith)
 
 down : (c : tie.Else3) → let x = c .before .before .before .args in
     (0 < x .den * 2 ^ (x .down - x .up)) × (x .den * 2 ^ (x .down - x .up) ≤ 2 ^ 52)
-down c = (mul-pos (omega arith) (pow-pos _), small _ _ (omega arith) (omega arith))
+down c = (mul-pos (omega arith) (pow-pos _), shift-most _ _ (2 ^ 26) 26 (omega arith) (omega arith))
 
 pub scaled-level-spec : {M : Type 1} → statement M
 scaled-level-spec =
