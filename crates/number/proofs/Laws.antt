@@ -6,9 +6,9 @@
 pub use Rattle.number.specs.Fractions.{Frac, _over_, twoToMinus, twoTo, Positive, Equal, AtMost, Below, Near}
 pub use Rattle.number.specs.Storing.{Normalised, Scales, IsMantissa, Promised, Stores, unit, worth, storedOf, ratioOf}
 pub use Rattle.number.specs.Channels.{IsLit, IsChannel, worthOf}
--- existence and uniqueness of exponent and mantissa; what storing promises
+-- existence and uniqueness of exponent, which is a difference, and mantissa; what storing promises
 pub use Rattle.number.proofs.Storing.{scales-exist}
-pub use Rattle.number.proofs.Scaling.{unique-exponent, unique-mantissa, promised}
+pub use Rattle.number.proofs.Scaling.{same-difference, unique-exponent, unique-mantissa, promised}
 -- equal fractions are stored alike; only the difference of the powers counts, which go into a fraction and out of it
 pub use Rattle.number.proofs.Scaling.{denominator-pos, scales-equal, rescale, powers-into, whole-powers-into, powers-out}
 -- a factor 2^k moves only the exponent; storing is monotone in the worth; a stored worth is stored as itself

@@ -179,7 +179,7 @@ module _ {F G : Frac} {i j M j′ M′ : ℕ} (s : Scales F i j M) (t : Scales G
       higher : j < j′ → (2 * M + 1) * 2 ^ j ≤ (2 * M′ + 1) * 2 ^ j′
       higher l = le-of-lt (steep j j′ M M′ (mantissa (s .normalised)) (mantissa (t .normalised)) l)
 
-same-difference : (a b c d : ℕ) → a + d ≡ c + b → subℕ a b ≡ subℕ c d
+pub same-difference : (a b c d : ℕ) → a + d ≡ c + b → subℕ a b ≡ subℕ c d
 same-difference a b c d e = go (decLe b a)
   where
     go : Dec (b ≤ a) → subℕ a b ≡ subℕ c d

@@ -8,10 +8,11 @@ use lib.Dec.{eqb, le→leb, lit<}
 use lib.IntN.{ℤ, pos, subℕ, natAbs, _+ℤ_}
 use lib.Signed.{_≤ℤ_, leZ-yes}
 use borrow.Author.Tests.{eqb-true}
+use Rattle.number.proofs.Laws.{same-difference}
 use Rattle.tone.specs.Averages.{floorDiv, floorMod, storedAverage, IsSum, IsAverage, HasAverage}
 use Rattle.tone.specs.Levels.{IsStoredAverage}
 use Rattle.tone.specs.Tables.{rootOf}
-use Rattle.tone.proofs.Differences.{sub-pos, sub-plus, sub-same, sub-least, sub-most, lowered}
+use Rattle.tone.proofs.Differences.{sub-pos, sub-plus, sub-least, sub-most, lowered}
 use Rattle.tone.proofs.Division.{floor-sub, mod-sub}
 use Rattle.tone.proofs.Rules.{root-mantissa}
 use Rattle.tone.proofs.Sums.{InSteps, sum-lowered}
@@ -38,7 +39,7 @@ raised A v =
     let d = lowered 15630 14335 A (v .least) (v .most) in
     record {
       steps = d .from + 19186;
-      is = d .is ∙ sub-same (d .from) 15630 (d .from + 19186) 34816 (omega arith);
+      is = d .is ∙ same-difference (d .from) 15630 (d .from + 19186) 34816 (omega arith);
       range = record { least = omega arith; most = omega (arith, d .most) };
     }
 

@@ -1,29 +1,14 @@
--- Differences a − b of natural numbers, `subℕ a b`: their sums, their order and when they are equal. Assumes nothing.
+-- Differences a − b of natural numbers, `subℕ a b`: their sums, products and order. Assumes nothing.
 use mathlib.Core.Path.{_≡_, refl, sym, ap, subst, _∙_}
 use Prim.Native.Nat.{ℕ, zero, suc, _+_, _-_, _*_, _≤_}
 use native.Mathlib.Nat.{add-zero, add-sub-of-le, lt-of-not-le}
 use native.Mathlib.Decide.{decLe}
 use native.Mathlib.Omega.{arith}
 use lib.Dec.{le→leb, leb→le}
-use lib.IntN.{
-  ℤ,
-  pos,
-  negsuc,
-  negℤ,
-  subℕ,
-  _+ℤ_,
-  _-ℤ_,
-  _*ℤ_,
-  +ℤ-assoc,
-  +ℤ-comm,
-  +ℤ-idl,
-  negℤ-+ℤ,
-  +ℤ-negℤ-cancel,
-  pos-*ℤ-pos,
-  negsuc-*ℤ-pos,
-}
+use lib.IntN.{ℤ, pos, negsuc, negℤ, subℕ, _+ℤ_, _-ℤ_, _*ℤ_, +ℤ-assoc, +ℤ-comm, +ℤ-idl, negℤ-+ℤ, pos-*ℤ-pos, negsuc-*ℤ-pos}
 use lib.Signed.{_≤ℤ_, leZ-yes}
 use borrow.Author.Tests.{lt-ltb, le-ltb}
+use Rattle.number.proofs.Laws.{same-difference}
 
 -- by what it comes to
 pub sub-pos : (a b d : ℕ) → a ≡ b + d → subℕ a b ≡ pos d
@@ -65,16 +50,6 @@ sub-minus a b k =
     ap (λ z. z -ℤ pos k) (sub-is a b) ∙ +ℤ-assoc (pos a) (negℤ (pos b)) (negℤ (pos k))
     ∙ ap (λ z. pos a +ℤ z) (sym (negℤ-+ℤ (pos b) (pos k))) ∙ sym (sub-is a (b + k))
 
--- ---- equal differences
-
-pub sub-same : (a b c d : ℕ) → a + d ≡ c + b → subℕ a b ≡ subℕ c d
-sub-same a b c d e =
-    sym (+ℤ-negℤ-cancel (subℕ a b) (pos d)) ∙ ap (λ z. z -ℤ pos d) (sub-plus a b d ∙ ap (λ x. subℕ x b) e)
-    ∙ back
-  where
-    back : subℕ (c + b) b -ℤ pos d ≡ subℕ c d
-    back = rw (sub-pos (c + b) b c (omega arith)) (sym (sub-is c d))
-
 -- ---- products
 
 pub sub-times : (a b n : ℕ) → subℕ a b *ℤ pos n ≡ subℕ (a * n) (b * n)
@@ -85,7 +60,7 @@ sub-times a b n =
     a b
   where
     negative : (k x y : ℕ) → x + k ≡ y → negℤ (pos k) ≡ subℕ x y
-    negative k x y e = sym (+ℤ-idl (negℤ (pos k))) ∙ sym (sub-is 0 k) ∙ sub-same 0 k x y (omega arith)
+    negative k x y e = sym (+ℤ-idl (negℤ (pos k))) ∙ sym (sub-is 0 k) ∙ same-difference 0 k x y (omega arith)
 
 -- ---- order
 

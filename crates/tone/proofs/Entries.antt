@@ -5,16 +5,9 @@ use mathlib.Core.List.{List, [], _∷_}
 use Prim.Native.Nat.{ℕ, zero, suc, _+_, _<_}
 use native.Mathlib.Nat.{add-zero, zero-add, add-suc, suc-add, le-of-suc-le-suc, not-suc-le-zero}
 use lib.Dec.{T, eqb, eqb→eq}
+use store.Enc.{and-l, and-r}
 use lib.ListN.{length, getD}
 use Rattle.tone.specs.Tables.{IsTable}
-
-both-left : (a b : Bool) → T (a && b) → T a
-both-left true b t = tt
-both-left false b t = t
-
-both-right : (a b : Bool) → T (a && b) → T b
-both-right true b t = t
-both-right false b t = absurd t
 
 -- each entry is what the rule says at its place, counted from i
 abbrev follows : (ℕ → ℕ) → ℕ → List ℕ → Bool
@@ -26,10 +19,10 @@ module _ (rule : ℕ → ℕ) where
   entry-from [] i t k h = absurd (not-suc-le-zero h)
   entry-from (x ∷ xs) i t zero h =
       subst (λ (m : ℕ). x ≡ rule m) (sym (add-zero i))
-      (eqb→eq x (rule i) (both-left (eqb x (rule i)) (follows rule (suc i) xs) t))
+      (eqb→eq x (rule i) (and-l (eqb x (rule i)) (follows rule (suc i) xs) t))
   entry-from (x ∷ xs) i t (suc k) h =
       subst (λ (m : ℕ). getD xs k 0 ≡ rule m) (suc-add i k ∙ sym (add-suc i k))
-      (entry-from xs (suc i) (both-right (eqb x (rule i)) (follows rule (suc i) xs) t) k (le-of-suc-le-suc h))
+      (entry-from xs (suc i) (and-r (eqb x (rule i)) (follows rule (suc i) xs) t) k (le-of-suc-le-suc h))
 
   pub table : {size : ℕ} (xs : List ℕ) → length xs ≡ size → T (follows rule 0 xs) → IsTable size rule xs
   table xs e t =
