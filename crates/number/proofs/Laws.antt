@@ -18,7 +18,8 @@ pub use Rattle.number.proofs.Scaling.{at-most-down, above-down, at-most
 -- an exponent from 0 on, and worths in units; `exponentOf` and `mantissaOf` store
 pub use Rattle.number.proofs.Storing.{unit-pos, unit-power, exponent-natural, worth-scaled, near, stored, stored-as}
 -- where the exponent fits eight bits
-pub use Rattle.number.proofs.Storing.{too-small-at, fits-at, too-large-at, in-range, fits-between, ratio-above, ratio-at-most}
+pub use Rattle.number.proofs.Storing.{too-small-at, fits-at, too-large-at, in-range, stored-alike, stores-alike}
+pub use Rattle.number.proofs.Storing.{fits-between, ratio-above, ratio-at-most}
 -- a fraction that is known to lie in the cell of a mantissa
 pub use Rattle.number.proofs.Normalised.{cell}
 -- a sum cut to one sticky bit is stored as the whole sum

@@ -198,6 +198,14 @@ in-range {F} e = by (decLe (F .num * 2 ^ 129) (1 * F .den)) (decLe (F .num * 1) 
     by (no g) (yes h) =
         stored F 129 (le-refl 129) (positive (F .num) (F .den) (2 ^ 129) (2 ^ 127) (lt-of-not-le g) h) (record { cross = lt-of-not-le g })
 
+-- and so is every fraction equal to it, alike
+module _ {F G : Frac} (r : ratioOf F ≡ InRange (storedOf F)) (e : Equal F G) (p : 0 < G .den) where
+  pub stored-alike : storedOf G ≡ storedOf F
+  stored-alike = stored-as (in-range r) e p
+
+  pub stores-alike : Stores G (exponentOf G) (mantissaOf G)
+  stores-alike = subst (λ s. Stores G (s .exponent) (s .mantissa)) (sym stored-alike) (scales-equal (in-range r) e p)
+
 pub fits-between : {F : Frac} → Below (twoToMinus 129) F → AtMost F (twoTo 127) → ratioOf F ≡ InRange (storedOf F)
 unfolding ratioOf
 fits-between g h = within _ _ _ _ _ _ g h

@@ -22,7 +22,7 @@ use Rattle.number.proofs.Laws.{
   scales-equal,
   stored-as,
 }
-use Rattle.tone.proofs.Storables.{unitRatio, Storable}
+use Rattle.tone.proofs.Storables.{unitRatio, Storable, shut}
 use Rattle.tone.proofs.Sticky.{jamOf, jam-multiple, jam-scales, jam-term}
 
 -- the terms are added from the smallest exponent on
@@ -68,7 +68,7 @@ module _ (n k v : ℕ) (some : 1 ≤ v) (part : v * 2 ^ k ≤ n) (low : 24 ≤ k
 
   whole : {E M : ℕ} → Stores (unitRatio (jamOf (n * 2 ^ 24) k) 200 (k - 24)) E M → Stores (n over 100 * unit) E M
   whole {E} {M} s =
-      subst (λ (u : ℕ). Stores (n over 100 * u) E M) (sym unit-power)
+      shut (λ (u : ℕ). Stores (n over 100 * u) E M)
       (scales-equal (powers-into 0 137 (rescale
       (powers-out n 100 24 k (jam-scales (n * 2 ^ 24) k 100 large (lit< tt) (powers-out _ 200 (k - 24) 137
       (subst (λ (u : ℕ). Stores (jamOf (n * 2 ^ 24) k * 2 ^ (k - 24) over 200 * u) E M) unit-power s))))

@@ -13,7 +13,7 @@ use native.Mathlib.Nat.{
 }
 use native.Mathlib.Omega.{arith}
 use lib.Dec.{lit<, lit≤}
-use lib.Pow.{pow-add, pow-mono, pow-pos}
+use lib.Pow.{pow-mono, pow-pos}
 use Rattle.number.proofs.Laws.{
   Frac,
   _over_,
@@ -30,11 +30,13 @@ use Rattle.number.proofs.Laws.{
   ratio-at-most,
   rescale,
   stored,
+  stored-alike,
   stored-as,
 }
 use Rattle.number.specs.declared.ratio.Stored.{Stored}
 use Rattle.tone.specs.Levels.{IsScaled, reinhard, displayOf, storedWorth}
-use Rattle.tone.proofs.Storables.{unitRatio, Storable, StoresAs, stored-alike}
+use Rattle.tone.proofs.Powers.{power-difference}
+use Rattle.tone.proofs.Storables.{unitRatio, Storable, StoresAs, shut}
 
 -- L/(1+L) of v · 2^e units
 abbrev share : (v e : ℕ) → Frac
@@ -42,10 +44,6 @@ share v e = reinhard (v * 2 ^ e over unit)
 
 share-pos : (v e : ℕ) → 0 < share v e .den
 share-pos v e = omega (arith, unit-pos)
-
--- with 2^137 written out
-shut : (P : ℕ → Type 0) → P (2 ^ 137) → P unit
-shut P h = subst P (sym unit-power) h
 
 -- every display luminance is above 2^-129
 pub display-stores : (l : Stored) → IsScaled l → StoresAs (reinhard (storedWorth l)) (displayOf reinhard l)
@@ -118,7 +116,7 @@ pub record Divided (v e num den : ℕ) : Type 0 where
 
 module _ (v e num den : ℕ) (n : (257 ≤ num) × (num ≤ 2 ^ 63)) (d : (1 ≤ den) × (den ≤ 2 ^ 64)) where
   divided : Equal (unitRatio num den 137) (share v e) → Divided v e num den
-  divided q = record { storable = fits; same = sym (stored-alike fits q (share-pos v e)) }
+  divided q = record { storable = fits; same = sym (stored-alike (fits .in-range) q (share-pos v e)) }
     where
       fits : Storable (unitRatio num den 137)
       fits =
@@ -140,8 +138,8 @@ module _ (v e s : ℕ) (value : (257 ≤ v) × (v ≤ 511)) where
 
       whole : s * 2 ^ e ≡ unit
       whole =
-          let r : s ≡ 2 ^ (137 - e) = omega arith in let t : 137 - e + e ≡ 137 = omega arith in
-          ap (λ (x : ℕ). x * 2 ^ e) r ∙ sym (pow-add 2 (137 - e) e) ∙ ap (λ (x : ℕ). 2 ^ x) t ∙ sym unit-power
+          let r : s ≡ 2 ^ (137 - e) = omega arith in
+          ap (λ (x : ℕ). x * 2 ^ e) r ∙ power-difference 137 e (h .1) ∙ sym unit-power
 
       cross : (u w p : ℕ) → u ≡ w → s * p ≡ u → v * w * (u + v * p) ≡ v * p * ((s + v) * u)
       cross u w p f g = rw (← f) (omega (arith, ap (λ (z : ℕ). z * (v * u)) g))
@@ -164,7 +162,7 @@ module _ (v e s : ℕ) (value : (257 ≤ v) × (v ≤ 511)) where
       whole : s * unit ≡ v * 2 ^ e
       whole =
           ap₂ _*_ q unit-power ∙ mul-assoc v (2 ^ (e - 137)) (2 ^ 137)
-          ∙ ap (λ (x : ℕ). v * x) (sym (pow-add 2 (e - 137) 137) ∙ ap (λ (x : ℕ). 2 ^ x) (omega arith))
+          ∙ ap (λ (x : ℕ). v * x) (power-difference e 137 (omega arith))
 
       cross : (u w p : ℕ) → u ≡ w → s * u ≡ p → s * w * (u + p) ≡ p * ((1 + s) * u)
       cross u w p f g = rw (← f, ← g) (omega arith)

@@ -1,16 +1,7 @@
 -- Step 6: levels of num · 2^up / (den · 2^down), and the level of a channel as one. Assumes nothing.
 use mathlib.Core.Path.{_≡_, sym, ap, _∙_, subst}
 use Prim.Native.Nat.{ℕ, _+_, _-_, _*_, _^_, _≤_, _<_, min}
-use native.Mathlib.Nat.{
-  div-eq-of-lt,
-  le-div-iff-mul-le,
-  le-of-eq,
-  le-trans,
-  min-eq-left,
-  mul-le-mul-right,
-  mul-pos,
-  sub-add-cancel,
-}
+use native.Mathlib.Nat.{div-eq-of-lt, le-div-iff-mul-le, le-of-eq, le-trans, min-eq-left, mul-le-mul-right, mul-pos}
 use native.Mathlib.Omega.{arith}
 use lib.Pow.{pow-add, pow-mono, pow-pos}
 use Rattle.number.proofs.Laws.{Frac, _over_, unit, unit-pos, unit-power}
@@ -19,10 +10,8 @@ use Rattle.number.specs.declared.channel.Channel.the-variants.{Black, Lit}
 use Rattle.number.specs.declared.ratio.Stored.{Stored}
 use Rattle.tone.specs.Fractions.{nearestWhole}
 use Rattle.tone.specs.Levels.{levelOf}
+use Rattle.tone.proofs.Powers.{power-difference}
 use Rattle.tone.proofs.Rounding.{nearest-equal}
-
-powers : (a b : ℕ) → b ≤ a → 2 ^ (a - b) * 2 ^ b ≡ 2 ^ a
-powers a b h = sym (pow-add 2 (a - b) b) ∙ ap (λ (z : ℕ). 2 ^ z) (sub-add-cancel h)
 
 -- the larger power is the other and some places more
 apart : (a b k : ℕ) → a + k ≤ b → 2 ^ a * 2 ^ k ≤ 2 ^ b
@@ -50,7 +39,7 @@ module _ (num up den down : ℕ) (n : (255 ≤ num) × (num < 2 ^ 26)) (d : (1 �
   pub raised : (s : ℕ) → down ≤ up → s ≡ num * 2 ^ (up - down) → min 255 (nearestWhole (s over den)) ≡ min 255 (nearestWhole x)
   raised s h q =
       ap (min 255) (nearest-equal (s over den) x (d .0) (mul-pos (d .0) (pow-pos down))
-      (record { cross = ap (λ (z : ℕ). z * (den * 2 ^ down)) q ∙ regroup (2 ^ (up - down)) (2 ^ down) (2 ^ up) (powers up down h) }))
+      (record { cross = ap (λ (z : ℕ). z * (den * 2 ^ down)) q ∙ regroup (2 ^ (up - down)) (2 ^ down) (2 ^ up) (power-difference up down h) }))
     where
       regroup : (p q r : ℕ) → p * q ≡ r → num * p * (den * q) ≡ num * r * den
       regroup p q r f = omega (arith, ap (λ (z : ℕ). num * den * z) f)
@@ -58,7 +47,7 @@ module _ (num up den down : ℕ) (n : (255 ≤ num) × (num < 2 ^ 26)) (d : (1 �
   pub lowered : (s : ℕ) → up ≤ down → s ≡ den * 2 ^ (down - up) → min 255 (nearestWhole (num over s)) ≡ min 255 (nearestWhole x)
   lowered s h q =
       ap (min 255) (nearest-equal (num over s) x pos (mul-pos (d .0) (pow-pos down))
-      (record { cross = regroup (2 ^ (down - up)) (2 ^ up) (2 ^ down) (powers down up h) ∙ sym (ap (λ (z : ℕ). num * 2 ^ up * z) q) }))
+      (record { cross = regroup (2 ^ (down - up)) (2 ^ up) (2 ^ down) (power-difference down up h) ∙ sym (ap (λ (z : ℕ). num * 2 ^ up * z) q) }))
     where
       pos : 0 < s
       pos = subst (λ (z : ℕ). 0 < z) (sym q) (mul-pos (d .0) (pow-pos (down - up)))

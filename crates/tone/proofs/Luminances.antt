@@ -18,7 +18,6 @@ use Rattle.number.proofs.Laws.{
   worthOf,
   storedOf,
   unit-pos,
-  unit-power,
   code-mono,
   idempotent,
   promised,
@@ -32,7 +31,7 @@ use Rattle.number.specs.declared.ratio.Stored.{Stored}
 use Rattle.tone.specs.Pixels.{IsPixel, exactLuminance, isBlack, luminanceOf, IsLuminance}
 use Rattle.tone.specs.declared.luminance.Luminance.{Luminance}
 use Rattle.tone.specs.declared.luminance.Luminance.the-variants.{Unlit}
-use Rattle.tone.proofs.Storables.{StoresAs}
+use Rattle.tone.proofs.Storables.{StoresAs, shut}
 
 -- by the three tests
 abbrev told : (p : Pixel) (r g b : Bool) → Luminance
@@ -105,7 +104,7 @@ module _ (p : Pixel) (valid : IsPixel p) where
     stores =
         stored (exactLuminance p) 129 (lit≤ tt) pos
         (record {
-          cross = subst (λ (u : ℕ). 1 * (100 * u) < sum * 2 ^ 129) (sym unit-power) (large (2 ^ 129) sum (pow-pos 129) (omega arith));
+          cross = shut (λ (u : ℕ). 1 * (100 * u) < sum * 2 ^ 129) (large (2 ^ 129) sum (pow-pos 129) (omega arith));
         })
       where
         large : (B n : ℕ) → 0 < B → 25601 ≤ n → 1 * (100 * (256 * B)) < n * B
@@ -114,7 +113,7 @@ module _ (p : Pixel) (valid : IsPixel p) where
     -- the least is that of the darkest blue, 6/100 of (72,128); the greatest that of the brightest white
     least-stores : Stores least 67 246
     least-stores =
-        subst (λ (u : ℕ). Stores (6 * (257 * 2 ^ 72) over 100 * u) 67 246) (sym unit-power)
+        shut (λ (u : ℕ). Stores (6 * (257 * 2 ^ 72) over 100 * u) 67 246)
         (record { normalised = record { above-half = lit< tt; at-most-one = lit≤ tt; digits = refl } })
 
     greatest-stores : Stores (worth 184 255) 184 255

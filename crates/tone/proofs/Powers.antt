@@ -1,7 +1,7 @@
--- Powers of two: a bound on a shifted number, and powers with a difference for exponent against a fraction. Assumes nothing.
-use mathlib.Core.Path.{_≡_, refl, ap, _∙_}
-use Prim.Native.Nat.{ℕ, suc, _+_, _*_, _^_, _≤_, _<_}
-use native.Mathlib.Nat.{le-of-mul-le-mul-left, lt-of-mul-lt-mul-left, mul-le-mul}
+-- Bounds on products and shifted numbers; powers of two of a difference, also against a fraction. Assumes nothing.
+use mathlib.Core.Path.{_≡_, refl, sym, ap, _∙_}
+use Prim.Native.Nat.{ℕ, suc, _+_, _-_, _*_, _^_, _≤_, _<_}
+use native.Mathlib.Nat.{le-of-mul-le-mul-left, lt-of-mul-lt-mul-left, mul-le-mul, sub-add-cancel}
 use native.Mathlib.Omega.{arith}
 use lib.IntN.{subℕ}
 use lib.Pow.{pow-add, pow-mono, pow-pos}
@@ -9,8 +9,14 @@ use Rattle.number.proofs.Laws.{Frac, AtMost, Below}
 use Rattle.tone.specs.Claims.{twoToThe}
 use Rattle.tone.proofs.Differences.{sub-pos, sub-neg, sub-cases}
 
+pub product-between : (a b c d x y : ℕ) → (a ≤ x) × (x ≤ b) → (c ≤ y) × (y ≤ d) → (a * c ≤ x * y) × (x * y ≤ b * d)
+product-between a b c d x y h k = (mul-le-mul (h .0) (k .0), mul-le-mul (h .1) (k .1))
+
 pub shift-most : (v s a b : ℕ) → v ≤ a → s ≤ b → v * 2 ^ s ≤ a * 2 ^ b
 shift-most v s a b h k = mul-le-mul h (pow-mono k)
+
+pub power-difference : (a b : ℕ) → b ≤ a → 2 ^ (a - b) * 2 ^ b ≡ 2 ^ a
+power-difference a b h = sym (pow-add 2 (a - b) b) ∙ ap (λ (z : ℕ). 2 ^ z) (sub-add-cancel h)
 
 -- the larger power is the smaller and some places more
 more : (a d : ℕ) → 2 ^ (suc a + d) ≡ 2 ^ a * 2 ^ suc d

@@ -1,13 +1,12 @@
--- The rules of T and X: what is greatest passes its test and the next number does not; T grows with M. Assumes nothing.
-use mathlib.Core.Path.{_≡_, refl}
+-- The rules of T and X: what is greatest passes its test and the next number does not. Assumes nothing.
 use Prim.Native.Nat.{ℕ, suc, _+_, _*_, _^_, _≤_, _<_, zero-le}
 use native.Mathlib.Nat.{suc-ne-zero, le-trans, pow-le-pow-left, pow-lt-pow-left}
 use native.Mathlib.Omega.{arith}
-use lib.Dec.{leb→le, le→leb, nleb→lt}
+use lib.Dec.{T, leb→le, le→leb, nleb→lt}
 use lib.Pow.{pow-lt, pow-mono}
 use lib.Arith.{lt→nleb}
 use Rattle.number.proofs.Laws.{IsMantissa}
-use Rattle.tone.specs.Tables.{greatest, logTest, logOf, rootTest, rootOf}
+use Rattle.tone.specs.Tables.{logTest, logOf, rootTest, rootOf}
 use Rattle.tone.proofs.Greatest.{greatest-le, passes, fails-next, reaches}
 
 pub log-le : (M : ℕ) → logOf M ≤ 2047
@@ -26,25 +25,12 @@ module _ (M : ℕ) (m : IsMantissa M) where
       nleb→lt _ _
       (fails-next (logTest M) 2047 (lt→nleb _ _ (pow-lt-pow-left {a = 2 * M + 1} {b = 512} (omega arith) (suc-ne-zero 255))))
 
-log-mono : (M M′ : ℕ) → IsMantissa M → M ≤ M′ → logOf M ≤ logOf M′
+-- T[M] is at least t where t passes the test at M or at a smaller mantissa
+pub log-from : (M′ t M : ℕ) → t ≤ 2047 → T (logTest M′ t) → M′ ≤ M → t ≤ logOf M
 unfolding logOf logTest
-log-mono M M′ m l =
-    reaches (logTest M′) 2047 (logOf M) (log-le M)
-    (le→leb _ _ (le-trans (log-below M m) (pow-le-pow-left {n = 2 * M + 1} {m = 2 * M′ + 1} (omega arith) 256)))
-
-log-128 : logOf 128 ≡ 1793
-unfolding logOf logTest greatest
-log-128 = refl
-
-log-246 : logOf 246 ≡ 2034
-unfolding logOf logTest greatest
-log-246 = refl
-
-pub log-from-128 : (M : ℕ) → 128 ≤ M → 1793 ≤ logOf M
-log-from-128 M l = rw log-128 at (log-mono 128 M (record { least = omega arith; most = omega arith }) l)
-
-pub log-from-246 : (M : ℕ) → 246 ≤ M → 2034 ≤ logOf M
-log-from-246 M l = rw log-246 at (log-mono 246 M (record { least = omega arith; most = omega arith }) l)
+log-from M′ t M few test l =
+    reaches (logTest M) 2047 t few
+    (le→leb _ _ (le-trans (leb→le _ _ test) (pow-le-pow-left {n = 2 * M′ + 1} {m = 2 * M + 1} (omega arith) 256)))
 
 -- X[f]^256 ≤ 2^(1792+f) < (X[f]+1)^256
 module _ (f : ℕ) where

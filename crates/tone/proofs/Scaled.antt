@@ -1,7 +1,7 @@
 -- Step 4: the scaled luminance of a key, a luminance (e, m) and an average (f, n). Assumes nothing.
 use mathlib.Core.Path.{_≡_, sym, ap, _∙_, subst}
 use Prim.Native.Nat.{ℕ, _+_, _-_, _*_, _^_, _≤_, _<_}
-use native.Mathlib.Nat.{mul-le-mul, mul-pos}
+use native.Mathlib.Nat.{mul-comm, mul-pos}
 use native.Mathlib.Omega.{arith}
 use lib.Dec.{T, leb, ltb, lit<}
 use lib.Pow.{pow-add, pow-pos}
@@ -23,12 +23,15 @@ use Rattle.number.proofs.Laws.{
   promised,
   ratio-above,
   ratio-at-most,
+  stored-alike,
+  stores-alike,
 }
 use Rattle.number.specs.declared.ratio.Stored.{Stored}
 use Rattle.tone.specs.Fractions.{_·_}
 use Rattle.tone.specs.Levels.{IsKey, IsStoredAverage, keyOverAverage, scaledOf, IsScaled, storedWorth}
 use Rattle.tone.specs.Pixels.{IsLuminance}
-use Rattle.tone.proofs.Storables.{unitRatio, Storable, StoresAs, stored-alike, storable-stores}
+use Rattle.tone.proofs.Powers.{power-difference, product-between}
+use Rattle.tone.proofs.Storables.{unitRatio, Storable, StoresAs}
 
 module _ (K : ℕ) (y a : Stored) (key : IsKey K) (luminance : IsLuminance y) (average : IsStoredAverage a) where
   abbrev ratio : Frac
@@ -46,8 +49,8 @@ module _ (K : ℕ) (y a : Stored) (key : IsKey K) (luminance : IsLuminance y) (a
     where
       powers : 2 ^ (137 + y .exponent - a .exponent) * 2 ^ a .exponent ≡ 2 ^ y .exponent * unit
       powers =
-          sym (pow-add 2 (137 + y .exponent - a .exponent) (a .exponent)) ∙ ap (λ (z : ℕ). 2 ^ z) (omega (arith, average .most))
-          ∙ pow-add 2 (y .exponent) 137 ∙ ap (λ (u : ℕ). 2 ^ y .exponent * u) (sym unit-power)
+          power-difference (137 + y .exponent) (a .exponent) (omega (arith, luminance, average)) ∙ pow-add 2 137 (y .exponent)
+          ∙ mul-comm (2 ^ 137) (2 ^ y .exponent) ∙ ap (λ (u : ℕ). 2 ^ y .exponent * u) (sym unit-power)
 
       regroup : (v w p q r u : ℕ) → p * q ≡ r * u → K * v * p * (1000 * (w * q) * u) ≡ K * u * (v * r) * (1000 * w * u)
       regroup v w p q r u h = omega (arith, ap (λ (z : ℕ). K * v * w * u * z) h)
@@ -58,10 +61,7 @@ module _ (K : ℕ) (y a : Stored) (key : IsKey K) (luminance : IsLuminance y) (a
       (mul-pos {m = 1000} (lit< tt) (mul-pos (omega arith) (pow-pos (a .exponent)))) unit-pos
 
   pub scaled-num : (257 ≤ K * (2 * y .mantissa + 1)) × (K * (2 * y .mantissa + 1) ≤ 511000)
-  scaled-num = (
-    mul-le-mul {n₁ = 1} {m₁ = 257} (key .least) (omega (arith, luminance .mantissa)),
-    mul-le-mul {n₂ = 1000} {m₂ = 511} (key .most) (omega (arith, luminance .mantissa)),
-  )
+  scaled-num = product-between 1 1000 257 511 _ _ (key .least, key .most) (omega (arith, luminance .mantissa))
 
   exponents : (20 ≤ 137 + y .exponent - a .exponent) × (137 + y .exponent - a .exponent ≤ 254)
   exponents = (omega (arith, luminance, average), omega (arith, luminance, average))
@@ -76,10 +76,10 @@ module _ (K : ℕ) (y a : Stored) (key : IsKey K) (luminance : IsLuminance y) (a
   scaled-storable = record { in-range = fits-between (above 129 tt) (at-most 127 tt) }
 
   pub scaled-stored : storedOf ratio ≡ scaledOf K y a
-  scaled-stored = sym (stored-alike scaled-storable equal positive)
+  scaled-stored = sym (stored-alike (scaled-storable .in-range) equal positive)
 
   pub scaled-stores : StoresAs exact (scaledOf K y a)
-  scaled-stores = storable-stores scaled-storable equal positive
+  scaled-stores = stores-alike (scaled-storable .in-range) equal positive
 
   -- "E is 1 to 246."
   pub is-scaled : IsScaled (scaledOf K y a)

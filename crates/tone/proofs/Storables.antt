@@ -1,7 +1,7 @@
--- A ratio that fits, and every fraction equal to it: what is stored of them. Assumes nothing.
+-- Words for what is stored: a ratio in units, one that fits, a fraction as a stored number. Assumes nothing.
 use mathlib.Core.Path.{_≡_, sym, subst}
-use Prim.Native.Nat.{ℕ, _*_, _^_, _<_}
-use Rattle.number.proofs.Laws.{Frac, _over_, Equal, Stores, unit, storedOf, ratioOf, in-range, scales-equal, stored-as}
+use Prim.Native.Nat.{ℕ, _*_, _^_}
+use Rattle.number.proofs.Laws.{Frac, _over_, Stores, unit, storedOf, ratioOf, unit-power}
 use Rattle.number.specs.declared.ratio.Stored.{Stored}
 use Rattle.number.specs.declared.ratio.StoredRatio.the-variants.{InRange}
 
@@ -17,9 +17,6 @@ pub record Storable (F : Frac) : Type 0 where
 abbrev pub StoresAs : Frac → Stored → Type 0
 StoresAs F s = Stores F (s .exponent) (s .mantissa)
 
-module _ {F G : Frac} (s : Storable F) (e : Equal F G) (p : 0 < G .den) where
-  pub stored-alike : storedOf G ≡ storedOf F
-  stored-alike = stored-as (in-range (s .in-range)) e p
-
-  pub storable-stores : StoresAs G (storedOf G)
-  storable-stores = subst (StoresAs G) (sym stored-alike) (scales-equal (in-range (s .in-range)) e p)
+-- what holds of 2^137 written out holds of the unit
+pub shut : (P : ℕ → Type 0) → P (2 ^ 137) → P unit
+shut P h = subst P (sym unit-power) h

@@ -4,20 +4,21 @@ use mathlib.Core.List.{List, [], _∷_, _++_}
 use Prim.Native.Nat.{ℕ, suc, _+_, _*_, _^_, _≤_, _<_}
 use native.Mathlib.Nat.{lt-of-not-le}
 use native.Mathlib.Decide.{decLe}
+use native.Mathlib.Numerals.{add-one}
 use native.Mathlib.Omega.{arith}
-use lib.IntN.{ℤ, pos, negℤ, subℕ, _+ℤ_, +ℤ-idl, +ℤ-idr, +ℤ-assoc}
+use lib.IntN.{ℤ, pos, negℤ, subℕ, _+ℤ_, +ℤ-idl, +ℤ-idr, +ℤ-assoc, +ℤ-comm}
 use lib.ListN.{length, length-append}
-use lib.Signed.{_≤ℤ_}
+use lib.Signed.{_≤ℤ_, leZ-yes}
 use mir.Syntax.{w64}
 use mir.Val.{SFits}
 use Rattle.number.specs.declared.ratio.Stored.{Stored}
 use Rattle.tone.specs.Averages.{stepsOf, IsSum}
 use Rattle.tone.specs.Claims.{Every}
 use Rattle.tone.specs.Pixels.{IsLuminance}
-use Rattle.tone.specs.Tables.{logOf}
+use Rattle.tone.specs.Tables.{logTest, logOf}
 use Rattle.tone.specs.Tallies.{sumOf, tallyOf, withLuminance, join}
 use Rattle.tone.proofs.Differences.{sub-add, sub-least, sub-most, Lowered, lowered}
-use Rattle.tone.proofs.Rules.{log-le, log-from-128, log-from-246}
+use Rattle.tone.proofs.Rules.{log-le, log-from}
 use Rattle.tone.proofs.Signed.{sub-fits}
 use Rattle.tone.proofs.Spread.{total}
 
@@ -32,11 +33,12 @@ pub record InSteps (steps : ℕ) : Type 0 where
   pub most : steps ≤ 49151
 
 raised-range : (y : Stored) → IsLuminance y → InSteps (raisedSteps y)
+unfolding logTest
 raised-range y l = record { least = low (decLe 246 (y .mantissa)); most = omega (arith, log-le (y .mantissa)) }
   where
     low : Dec (246 ≤ y .mantissa) → 19186 ≤ raisedSteps y
-    low (yes h) = omega (arith, log-from-246 (y .mantissa) h)
-    low (no h) = omega (arith, lt-of-not-le h, log-from-128 (y .mantissa) (l .mantissa .least))
+    low (yes h) = omega (arith, log-from 246 2034 (y .mantissa) (omega arith) tt h)
+    low (no h) = omega (arith, lt-of-not-le h, log-from 128 1793 (y .mantissa) (omega arith) tt (l .mantissa .least))
 
 pub steps-least : (y : Stored) → IsLuminance y → negℤ (pos 15630) ≤ℤ stepsOf y
 steps-least y l = sub-least 15630 (raisedSteps y) 34816 (omega (arith, raised-range y l .least))
@@ -76,19 +78,12 @@ sum-is (y ∷ ys) =
     let e : 34816 * suc (length ys) ≡ 34816 + 34816 * length ys = omega arith in
     rw (sum-is ys, e) (sub-add (raisedSteps y) 34816 _ _)
 
-total-least : (ys : List Stored) → Every IsLuminance ys → 19186 * length ys ≤ total raisedSteps ys
-total-least [] h = omega arith
-total-least (y ∷ ys) h = omega (arith, raised-range y (h .0) .least, total-least ys (h .1))
-
-total-most : (ys : List Stored) → Every IsLuminance ys → total raisedSteps ys ≤ 49151 * length ys
-total-most [] h = omega arith
-total-most (y ∷ ys) h = omega (arith, raised-range y (h .0) .most, total-most ys (h .1))
-
 pub tally-is-sum : (ys : List Stored) → Every IsLuminance ys → length ys ≤ 2 ^ 40 → IsSum (length ys) (sumOf ys)
-tally-is-sum ys h few =
-    rw (sum-is ys)
-    (difference-is-sum (length ys) (total raisedSteps ys) (34816 * length ys) few (omega (arith, total-least ys h))
-    (omega (arith, total-most ys h)))
+unfolding sumOf
+tally-is-sum [] h few = record { few = few; least = leZ-yes tt; most = leZ-yes tt }
+tally-is-sum (y ∷ ys) h few =
+    rw (+ℤ-comm (stepsOf y) (sumOf ys), ← add-one (length ys))
+    (sum-more y (tally-is-sum ys (h .1) (omega arith)) (omega arith) (h .0))
 
 -- ---- no luminance, lists one after the other, one luminance more
 

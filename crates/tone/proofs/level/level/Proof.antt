@@ -1,18 +1,15 @@
 -- `tone::level::level` meets its contract. Assumes nothing.
 use mathlib.Core.Path.{_∙_}
 use Prim.Native.Nat.{ℕ, _+_, _*_, _≤_}
-use native.Mathlib.Nat.{mul-le-mul}
 use native.Mathlib.Omega.{arith}
 use borrow.Author.Needs.{needs}
 use Rattle.tone.proofs.LevelSteps.{black-level, lit-level}
+use Rattle.tone.proofs.Powers.{product-between}
 use Rattle.tone.proofs.level.level.Statement.{statement}
 use Rattle.tone.proofs.level.level.Tie as tie
 
 product : (d m : ℕ) → d ≤ 255 → m ≤ 255 → (255 ≤ 255 * (2 * d + 1) * (2 * m + 1)) × (255 * (2 * d + 1) * (2 * m + 1) ≤ 66585855)
-product d m h k = (
-  mul-le-mul {n₁ = 255} {m₁ = 1} (omega arith) (omega arith),
-  mul-le-mul {n₂ = 130305} {m₂ = 511} (omega arith) (omega arith),
-)
+product d m h k = product-between 255 130305 1 511 (255 * (2 * d + 1)) (2 * m + 1) (omega arith) (omega arith)
 
 mul-scaled-level-4 : tie.Need-mul-scaled-level-4
 mul-scaled-level-4 c =

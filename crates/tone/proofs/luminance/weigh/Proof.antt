@@ -1,7 +1,7 @@
 -- `tone::luminance::weigh` meets its contract. Assumes nothing.
 use mathlib.Core.Path.{_≡_, refl, sym, subst}
 use Prim.Native.Nat.{ℕ, _+_, _*_, _^_, _≤_, min}
-use native.Mathlib.Nat.{mul-le-mul, mul-assoc}
+use native.Mathlib.Nat.{mul-assoc}
 use native.Mathlib.Omega.{arith}
 use borrow.Author.Needs.{needs}
 use borrow.Author.Tests.{ne-eqb}
@@ -10,14 +10,12 @@ use Rattle.number.proofs.Laws.{IsLit, IsChannel, worthOf}
 use Rattle.number.specs.declared.channel.Channel.{Channel}
 use Rattle.number.specs.declared.channel.Channel.the-variants.{Black, Lit}
 use Rattle.tone.specs.Pixels.{isBlack}
+use Rattle.tone.proofs.Powers.{product-between}
 use Rattle.tone.proofs.luminance.weigh.Statement.{statement}
 use Rattle.tone.proofs.luminance.weigh.Tie as tie
 
 product : (w m : ℕ) → (1 ≤ w) × (w ≤ 67) → m ≤ 255 → (1 ≤ w * (2 * m + 1)) × (w * (2 * m + 1) ≤ 34237)
-product w m l h = (
-  mul-le-mul {n₁ = 1} {m₁ = 1} (l .0) (omega arith),
-  mul-le-mul {n₂ = 67} {m₂ = 511} (l .1) (omega arith),
-)
+product w m l h = product-between 1 67 1 511 w (2 * m + 1) l (omega arith)
 
 -- what is promised of a channel, its weight, and the value and exponent of its part
 Weighed : (channel : Channel) (w v e : ℕ) → Type 0
