@@ -7,7 +7,7 @@ use borrow.Author.Tests.{eq-eqb, le-leb}
 use lib.ListN.{length, length-map}
 use Rattle.number.specs.declared.channel.Channel.{Channel}
 use Rattle.number.specs.Channels.{codeOf}
-use Rattle.number.proofs.Laws.{code-channel, channel-code, half-valid, single-valid, rgbe-valid}
+use Rattle.number.proofs.Laws.{Every, IsChannel, code-channel, channel-code, half-valid, single-valid, rgbe-valid}
 use Rattle.refusal.specs.declared.Verdict.the-variants.{Accepted}
 use Rattle.refusal.proofs.Laws.{and-passed, and-met, require-met}
 use Rattle.word.specs.declared.header.Header.{Header}
@@ -20,7 +20,6 @@ use Rattle.strip.specs.Reading.{stripChannels}
 use Rattle.strip.proofs.Limits.{whole}
 use Rattle.word.proofs.Decoding.{holds, all-held}
 use Rattle.strip.proofs.RoundTrip.{
-  All,
   channels-valid,
   ReadAs,
   row-read,
@@ -52,7 +51,7 @@ use Rattle.convert.proofs.Pages.{Page, page, channel-count}
 
 -- ---- every channel of an accepted source is one
 
-pixels-valid : (i : ℕ) (xs : List ℕ) → firstRefusal (rgbePixels i xs) ≡ Accepted → All (channelsOf (rgbePixels i xs))
+pixels-valid : (i : ℕ) (xs : List ℕ) → firstRefusal (rgbePixels i xs) ≡ Accepted → Every IsChannel (channelsOf (rgbePixels i xs))
 pixels-valid i [] h = tt
 pixels-valid i (r ∷ []) h = tt
 pixels-valid i (r ∷ g ∷ []) h = tt
@@ -66,7 +65,7 @@ pixels-valid i (r ∷ g ∷ b ∷ e ∷ xs) h =
     let blue = rgbe-valid _ b e (holds _ _ (q₃ .0)) in
     (red, (green, (blue, pixels-valid (i + 4) xs (q₃ .1))))
 
-elements-valid : (f : Format) (xs : List ℕ) → firstRefusal (decodedSource f xs) ≡ Accepted → All (channelsOf (decodedSource f xs))
+elements-valid : (f : Format) (xs : List ℕ) → firstRefusal (decodedSource f xs) ≡ Accepted → Every IsChannel (channelsOf (decodedSource f xs))
 elements-valid rgbe xs e = pixels-valid 0 xs e
 elements-valid half xs e = channels-valid halfElement (λ k b c. half-valid c b) 0 0 xs e
 elements-valid single xs e = channels-valid singleElement (λ k b c. single-valid c b) 0 0 xs e
@@ -114,7 +113,7 @@ reads-back f h xs room accepted =
 
 -- ---- a page's channels as codes
 
-codes-read : (k : ℕ) (cs : List Channel) → All cs → ReadAs storedElement 0 k (map codeOf cs) cs
+codes-read : (k : ℕ) (cs : List Channel) → Every IsChannel cs → ReadAs storedElement 0 k (map codeOf cs) cs
 codes-read k cs t =
     row-read storedElement (λ j c. codeOf c) (λ j ds. map codeOf ds) (λ j. refl) (λ j c ds. refl) (λ j c. code-channel c) 0 k cs t
 

@@ -2,7 +2,8 @@
 -- nothing beneath it.
 -- Assumes nothing.
 
--- fractions; the rule of storing, worths in units of 2^-137, and what is stored; channels and their worths
+-- lists; fractions; the rule of storing, worths in units of 2^-137, and what is stored; channels and their worths
+pub use Rattle.number.specs.Lists.{Every}
 pub use Rattle.number.specs.Fractions.{Frac, _over_, twoToMinus, twoTo, Positive, Equal, AtMost, Below, Near}
 pub use Rattle.number.specs.Storing.{Normalised, Scales, IsMantissa, Promised, Stores, unit, worth, storedOf, ratioOf}
 pub use Rattle.number.specs.Channels.{IsLit, IsChannel, worthOf}

@@ -1,3 +1,4 @@
+pub mod Lists
 pub mod Fractions
 pub mod Storing
 pub mod Channels

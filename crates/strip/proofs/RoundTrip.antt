@@ -12,7 +12,7 @@ use Rattle.number.specs.declared.channel.Channel.the-variants.{Black, Lit}
 use Rattle.number.specs.declared.channel.Decoded.{Decoded}
 use Rattle.number.specs.declared.channel.Decoded.the-variants.{Holds}
 use Rattle.number.specs.Channels.{IsChannel, codeOf}
-use Rattle.number.proofs.Laws.{code-channel}
+use Rattle.number.proofs.Laws.{Every, code-channel}
 use Rattle.refusal.specs.declared.Verdict.{Verdict}
 use Rattle.refusal.specs.declared.Verdict.the-variants.{Accepted}
 use Rattle.refusal.proofs.Laws.{and-passed, and-met, require-met}
@@ -40,13 +40,8 @@ use Rattle.word.proofs.Decoding.{holds, is-word}
 
 -- ---- rows of elements that are read as channels, whatever f reads in one
 
--- every channel of a list is one
-abbrev pub All : List Channel → Type 0
-All [] = Unit
-All (c ∷ cs) = IsChannel c × All cs
-
 pub channels-valid : (f : ℕ → ℕ → Decoded) → ((k x : ℕ) (c : Channel) → f k x ≡ Holds c → IsChannel c) → (start k : ℕ) (xs : List ℕ)
-    → firstRefusal (placed f start k xs) ≡ Accepted → All (channelsOf (placed f start k xs))
+    → firstRefusal (placed f start k xs) ≡ Accepted → Every IsChannel (channelsOf (placed f start k xs))
 channels-valid f valid start k [] e = tt
 channels-valid f valid start k (x ∷ xs) e =
     let q = and-passed _ _ e in
@@ -64,7 +59,7 @@ module _
     (none : (k : ℕ) → row k [] ≡ [])
     (one : (k : ℕ) (c : Channel) (cs : List Channel) → row k (c ∷ cs) ≡ g k c ∷ row (suc k) cs)
     (read : (k : ℕ) (c : Channel) → IsChannel c → f k (g k c) ≡ Holds c) where
-  pub row-read : (start k : ℕ) (cs : List Channel) → All cs → ReadAs f start k (row k cs) cs
+  pub row-read : (start k : ℕ) (cs : List Channel) → Every IsChannel cs → ReadAs f start k (row k cs) cs
   row-read start k [] t = rw (none k) (record { accepted = refl; channels = refl })
   row-read start k (c ∷ cs) t =
       let e = read k c (t .0) in
@@ -84,7 +79,7 @@ word-read k c t =
     let low : low16 (channelWord k (codeOf c)) ≡ codeOf c = omega arith in
     simp (low, eq-eqb (channelWord k (codeOf c)) (channelWord k (codeOf c)) refl) (code-channel c t)
 
-words-read : (start k : ℕ) (cs : List Channel) → All cs → ReadAs decodeWord start k (bodyWords k cs) cs
+words-read : (start k : ℕ) (cs : List Channel) → Every IsChannel cs → ReadAs decodeWord start k (bodyWords k cs) cs
 words-read = row-read decodeWord (λ k c. channelWord k (codeOf c)) bodyWords (λ k. refl) (λ k c cs. refl) word-read
 
 words-written : (start k : ℕ) (ws : List ℕ) → firstRefusal (placed decodeWord start k ws) ≡ Accepted
@@ -105,7 +100,7 @@ pub record IsPage (h : Header) (cs : List Channel) : Type 0 where
   pub size : sizeFits (h .width) (h .height) ≡ true
   pub key : keyFits (h .key) ≡ true
   pub count : length cs ≡ 3 * pixels h
-  pub valid : All cs
+  pub valid : Every IsChannel cs
 
 module _ (h : Header) (cs : List Channel) (ok : IsPage h cs) where
   width-read : widthIn (sizeWord (h .width) (h .height)) ≡ h .width

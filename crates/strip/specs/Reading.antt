@@ -3,6 +3,7 @@ use Prim.Native.Nat.{ℕ, _+_, _*_}
 use mathlib.Core.List.{List, map}
 use lib.ListN.{take, drop}
 use Rattle.number.specs.declared.channel.Channel.{Channel}
+use Rattle.number.specs.declared.channel.Pixel.{Pixel}
 use Rattle.number.specs.Channels.{codeOf}
 use Rattle.refusal.specs.declared.Verdict.{Verdict}
 use Rattle.refusal.specs.declared.Verdict.the-variants.{Accepted, Refused}
@@ -11,6 +12,7 @@ use Rattle.strip.specs.declared.read.HeaderOrRefusal.{HeaderOrRefusal}
 use Rattle.strip.specs.declared.read.HeaderOrRefusal.the-variants.{Holds, Refuses}
 use Rattle.word.specs.Words.{bodyStart}
 use Rattle.word.specs.Placing.{channelsOf}
+use Rattle.word.specs.Pixels.{pixelsOf}
 use Rattle.strip.specs.Checks.{headerFields, decodedBody, checkStrip, checkRow}
 
 abbrev pub headerUnder : Verdict → Header → HeaderOrRefusal
@@ -23,6 +25,10 @@ readHeader s = headerUnder (checkStrip s) (headerFields s)
 
 abbrev pub stripChannels : List ℕ → List Channel
 stripChannels s = channelsOf (decodedBody s)
+
+-- its pixels, "left to right, top row first"
+abbrev pub stripPixels : List ℕ → List Pixel
+stripPixels s = pixelsOf (stripChannels s)
 
 -- unpacked: the channels as 16-bit numbers
 abbrev pub stripCodes : List ℕ → List ℕ

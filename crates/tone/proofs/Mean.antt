@@ -10,11 +10,11 @@ use lib.Dec.{eqb}
 use lib.IntN.{ℤ, pos, subℕ, _+ℤ_, _-ℤ_, _*ℤ_}
 use lib.ListN.{length}
 use lib.Pow.{pow-add, pow-pos}
-use Rattle.number.proofs.Laws.{Frac, AtMost, Below, IsMantissa, unit-power}
+use Rattle.number.proofs.Laws.{Every, Frac, AtMost, Below, IsMantissa, unit-power}
 use Rattle.number.specs.declared.ratio.Stored.{Stored}
 use Rattle.tone.specs.Averages.{floorDiv, storedAverage, averageOf}
 use Rattle.tone.specs.declared.average.Average.the-variants.{Absent, Present}
-use Rattle.tone.specs.Claims.{Every, productOfWorths, twoToThe, MeanWithin, MeanBound, MeanIsBounded}
+use Rattle.tone.specs.Claims.{productOfWorths, twoToThe, MeanWithin, MeanBound, MeanIsBounded}
 use Rattle.tone.specs.Pixels.{IsLuminance}
 use Rattle.tone.specs.Tables.{logOf}
 use Rattle.tone.specs.Tallies.{sumOf}

@@ -25,7 +25,7 @@ use native.Mathlib.Nat.{
 use native.Mathlib.Omega.{arith}
 use lib.ListN.{length}
 use lib.Pow.{pow-add, pow-mono, pow-pos}
-use Rattle.tone.specs.Claims.{Every}
+use Rattle.number.proofs.Laws.{Every}
 
 -- ---- powers
 

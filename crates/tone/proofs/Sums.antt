@@ -11,9 +11,9 @@ use lib.ListN.{length, length-append}
 use lib.Signed.{_≤ℤ_, leZ-yes}
 use mir.Syntax.{w64}
 use mir.Val.{SFits}
+use Rattle.number.proofs.Laws.{Every}
 use Rattle.number.specs.declared.ratio.Stored.{Stored}
 use Rattle.tone.specs.Averages.{stepsOf, IsSum}
-use Rattle.tone.specs.Claims.{Every}
 use Rattle.tone.specs.Pixels.{IsLuminance}
 use Rattle.tone.specs.Tables.{logTest, logOf}
 use Rattle.tone.specs.Tallies.{sumOf, tallyOf, withLuminance, join}

@@ -6,7 +6,7 @@ use mathlib.Core.Logic.{_⊎_}
 use Prim.Native.Nat.{ℕ, suc, _+_, _*_, _<_}
 use lib.IntN.{ℤ, pos, negsuc, _+ℤ_, _-ℤ_, _*ℤ_}
 use lib.ListN.{length}
-use Rattle.number.proofs.Laws.{Frac, _over_, twoTo, twoToMinus, AtMost, Below, worthOf}
+use Rattle.number.proofs.Laws.{Every, Frac, _over_, twoTo, twoToMinus, AtMost, Below, worthOf}
 use Rattle.number.specs.declared.channel.Channel.{Channel}
 use Rattle.number.specs.declared.channel.Pixel.{Pixel}
 use Rattle.number.specs.declared.ratio.Stored.{Stored}
@@ -17,11 +17,6 @@ use Rattle.tone.specs.Averages.{averageOf}
 use Rattle.tone.specs.Levels.{IsKey, IsStoredAverage, storedWorth, keyOverAverage, reinhard, mappedLevel}
 use Rattle.tone.specs.declared.average.Average.the-variants.{Present}
 use Rattle.tone.specs.declared.luminance.Luminance.{Luminance}
-
--- what holds of every element
-abbrev pub Every : {X : Type 0} → (X → Type 0) → List X → Type 0
-Every Holds [] = Unit
-Every Holds (x ∷ xs) = Holds x × Every Holds xs
 
 -- ---- first half: the average against the true logarithm of the mean
 

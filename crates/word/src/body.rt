@@ -3,8 +3,11 @@ ghost use mathlib.Core.Path.{_≡_};
 ghost use Rattle.word.specs.Words.{channelWord};
 ghost use Rattle.word.specs.Fields.{decodeWord};
 ghost use Rattle.word.specs.Placing.{verdictAt};
+ghost use Rattle.word.specs.Pixels.{pixelOf, wordChannel};
 use crate::header::low_half;
+use number::channel::Channel;
 use number::channel::Decoded;
+use number::channel::Pixel;
 use number::channel::code_to_channel;
 use refusal::Refusal;
 use refusal::Verdict;
@@ -38,5 +41,26 @@ pub fn verdict_at(i: usize, decoded: Decoded) -> Verdict
     match decoded {
         Decoded::Holds(_) => Verdict::Accepted,
         Decoded::Refuses(refusal) => Verdict::Refused(refusal, i),
+    }
+}
+
+// The channel of an accepted word.
+fn word_channel(word: u32) -> Channel
+    ensures { λ r. ⌜ r ≡ wordChannel word ⌝ }
+{
+    match code_to_channel(low_half(word)) {
+        Decoded::Holds(channel) => channel,
+        Decoded::Refuses(_) => Channel::Black,
+    }
+}
+
+// The pixel of three accepted words.
+pub fn pixel_in(red: u32, green: u32, blue: u32) -> Pixel
+    ensures { λ r. ⌜ r ≡ pixelOf (wordChannel red) (wordChannel green) (wordChannel blue) ⌝ }
+{
+    Pixel {
+        red: word_channel(red),
+        green: word_channel(green),
+        blue: word_channel(blue),
     }
 }

@@ -1,0 +1,43 @@
+-- The levels of a page. Assumes nothing.
+-- "mapping gives three level bytes a pixel"
+use Prim.Native.Nat.{ℕ, _*_}
+use mathlib.Core.List.{List, [], _∷_, map}
+use lib.ListN.{length, replicate}
+use Rattle.number.specs.declared.channel.Pixel.{Pixel}
+use Rattle.number.specs.declared.ratio.Stored.{Stored}
+use Rattle.strip.specs.Checks.{headerFields}
+use Rattle.strip.specs.Reading.{stripPixels}
+use Rattle.tone.specs.declared.average.Average.{Average}
+use Rattle.tone.specs.declared.average.Average.the-variants.{Absent, Present}
+use Rattle.tone.specs.declared.luminance.Luminance.{Luminance}
+use Rattle.tone.specs.declared.luminance.Luminance.the-variants.{Unlit, Lit}
+use Rattle.tone.specs.Levels.{reinhard, mappedLevel}
+use Rattle.tone.specs.Pixels.{luminanceOf}
+use Rattle.page.specs.declared.body.Levels.{Levels}
+use Rattle.page.specs.Pages.{stripAverage}
+
+-- steps 4 to 6 for the channels of a pixel; those of an unlit one are black, and "Black gives 0"
+abbrev pub levelsUnder : Luminance → (K : ℕ) (average : Stored) → Pixel → Levels
+levelsUnder Unlit K a p = record { red = 0; green = 0; blue = 0 }
+levelsUnder (Lit y) K a p = record {
+  red = mappedLevel reinhard K a y (p .red);
+  green = mappedLevel reinhard K a y (p .green);
+  blue = mappedLevel reinhard K a y (p .blue);
+}
+
+abbrev pub levelsOf : (K : ℕ) (average : Stored) → Pixel → Levels
+levelsOf K a p = levelsUnder (luminanceOf p) K a p
+
+-- the bytes in the order of the channels
+abbrev pub levelBytes : List Levels → List ℕ
+levelBytes [] = []
+levelBytes (l ∷ ls) = l .red ∷ l .green ∷ l .blue ∷ levelBytes ls
+
+-- "If N = 0 the page is accepted, the average is reported as absent, all levels are 0."
+abbrev pub pageLevels : Average → (K : ℕ) → List Pixel → List ℕ
+pageLevels Absent K ps = replicate (3 * length ps) 0
+pageLevels (Present A average) K ps = levelBytes (map (levelsOf K average) ps)
+
+-- the level bytes of an accepted strip
+abbrev pub stripLevels : List ℕ → List ℕ
+stripLevels s = pageLevels (stripAverage s) (headerFields s .key) (stripPixels s)

@@ -1,0 +1,109 @@
+// The channel words of an accepted strip, pixel by pixel: their tally, and their levels.
+ghost use mathlib.Core.Path.{_≡_};
+ghost use mathlib.Core.List.{map};
+ghost use Prim.Native.Nat.{_+_, _^_, _≤_, _<_};
+ghost use lib.ListN.{length, set, replicate};
+ghost use Rattle.strip.specs.Output.{onto};
+ghost use Rattle.tone.specs.Levels.{IsKey, IsStoredAverage};
+ghost use Rattle.tone.specs.Pixels.{IsPixel};
+ghost use Rattle.tone.specs.Tallies.{tallyOf};
+ghost use Rattle.page.specs.Pages.{wordPixels, luminancesOf};
+ghost use Rattle.page.specs.Mapping.{levelsOf, levelBytes};
+use number::channel::Pixel;
+use number::ratio::Stored;
+use tone::level::display;
+use tone::level::level;
+use tone::luminance::Luminance;
+use tone::luminance::pixel_luminance;
+use tone::tables::log_table;
+use tone::tally::Tally;
+use tone::tally::no_luminance;
+use tone::tally::with_luminance;
+use word::body::pixel_in;
+
+// The tally of all pixels.
+pub fn tally_pixels(words: &[u32]) -> Tally
+    requires { ⌜ length (now words) ≤ 2 ^ 40 ⌝ }
+    ensures { λ r. ⌜ r ≡ tallyOf (luminancesOf (wordPixels (now (words .entry)))) ⌝ }
+{
+    let logs = log_table();
+    let pixels = words.len() / 3;
+    let mut tally = no_luminance();
+    let mut p: usize = 0;
+    while p < pixels {
+        let at = 3 * p;
+        match pixel_luminance(pixel_in(words[at], words[at + 1], words[at + 2])) {
+            Luminance::Unlit => {},
+            Luminance::Lit(luminance) => tally = with_luminance(&logs, tally, luminance),
+        }
+        p += 1;
+    }
+    tally
+}
+
+// The level bytes of a pixel.
+pub struct Levels {
+    pub red: u8,
+    pub green: u8,
+    pub blue: u8,
+}
+
+// The levels of a pixel, all 0 where it is unlit.
+fn pixel_levels(key: u64, average: Stored, pixel: Pixel) -> Levels
+    requires { ⌜ IsKey key × IsStoredAverage average × IsPixel pixel ⌝ }
+    ensures { λ r. ⌜ r ≡ levelsOf key average pixel ⌝ }
+{
+    let Luminance::Lit(luminance) = pixel_luminance(pixel) else {
+        return Levels {
+            red: 0,
+            green: 0,
+            blue: 0,
+        };
+    };
+    let shown = display(key, luminance, average);
+    let red = pixel.red;
+    let green = pixel.green;
+    let blue = pixel.blue;
+    Levels {
+        red: level(shown, red, luminance),
+        green: level(shown, green, luminance),
+        blue: level(shown, blue, luminance),
+    }
+}
+
+// The three bytes of a pixel, from the index `at` on.
+fn store_levels(levels: Levels, at: usize, output: &mut [u8])
+    requires { ⌜ at + 2 < length (now output) ⌝ }
+    ensures { λ _. ⌜ now (output .exit) ≡ set (set (set (now (output .entry)) at (levels .red)) (at + 1) (levels .green)) (at + 2) (levels .blue) ⌝ }
+{
+    output[at] = levels.red;
+    output[at + 1] = levels.green;
+    output[at + 2] = levels.blue;
+}
+
+// The levels of all pixels under a key and an average, into the front of the output.
+pub fn fill_levels(words: &[u32], key: u64, average: Stored, output: &mut [u8])
+    requires { ⌜ IsKey key × IsStoredAverage average × (length (now words) ≤ length (now output)) ⌝ }
+    ensures { λ _. ⌜ now (output .exit) ≡ onto (levelBytes (map (levelsOf key average) (wordPixels (now (words .entry))))) (now (output .entry)) ⌝ }
+{
+    let pixels = words.len() / 3;
+    let mut p: usize = 0;
+    while p < pixels {
+        let at = 3 * p;
+        let pixel = pixel_in(words[at], words[at + 1], words[at + 2]);
+        store_levels(pixel_levels(key, average, pixel), at, output);
+        p += 1;
+    }
+}
+
+// Level 0 in the first `count` bytes of the output.
+pub fn clear_levels(count: usize, output: &mut [u8])
+    requires { ⌜ count ≤ length (now output) ⌝ }
+    ensures { λ _. ⌜ now (output .exit) ≡ onto (replicate count 0) (now (output .entry)) ⌝ }
+{
+    let mut i: usize = 0;
+    while i < count {
+        output[i] = 0;
+        i += 1;
+    }
+}

@@ -1,0 +1,35 @@
+// The tally of a page.
+ghost use mathlib.Core.Path.{_≡_};
+ghost use Rattle.page.specs.Pages.{tallyStrip};
+ghost use Rattle.page.specs.Claims.{TallyIsBounded};
+use crate::body::tally_pixels;
+use refusal::Refusal;
+use refusal::Verdict;
+use strip::check::check;
+use tone::average::Average;
+use tone::average::average_of;
+use tone::tally::Tally;
+use word::body::BODY_START;
+use word::header::pixel_count;
+
+// The tally of an accepted strip with its average, or its refusal with the index where it was found.
+pub enum TallyOrRefusal {
+    Holds(Tally, Average),
+    Refuses(Refusal, usize),
+}
+
+// The lit pixels of a strip, the sum of their steps and the average, or the strip's refusal.
+pub fn tally(strip: &[u32]) -> TallyOrRefusal
+    ensures answer { λ r. ⌜ r ≡ tallyStrip (now (strip .entry)) ⌝ }
+    ensures bound { λ r. ⌜ TallyIsBounded (now (strip .entry)) r ⌝ }
+{
+    let verdict = check(strip);
+    match verdict {
+        Verdict::Accepted => {
+            let end = BODY_START + 3 * pixel_count(strip[0]);
+            let tally = tally_pixels(&strip[BODY_START..end]);
+            TallyOrRefusal::Holds(tally, average_of(tally.count, tally.sum))
+        },
+        Verdict::Refused(refusal, i) => TallyOrRefusal::Refuses(refusal, i),
+    }
+}

@@ -1,0 +1,54 @@
+-- Laws of the pixels that words stand for. Assumes nothing.
+use Prim.Native.Nat.{ℕ, zero, suc, _+_, _*_, _/_, _<_}
+use mathlib.Core.Path.{_≡_, refl, sym, ap, _∙_}
+use mathlib.Core.List.{List, [], _∷_, map}
+use native.Mathlib.Omega.{arith}
+use lib.ListN.{length, getD, length-map, List·getD-map}
+use Rattle.number.specs.declared.channel.Channel.{Channel}
+use Rattle.number.specs.declared.channel.Channel.the-variants.{Black}
+use Rattle.number.specs.declared.channel.Decoded.{Decoded}
+use Rattle.number.specs.declared.channel.Decoded.the-variants.{Holds, Refuses}
+use Rattle.number.specs.declared.channel.Pixel.{Pixel}
+use Rattle.number.specs.Channels.{channelOfCode}
+use Rattle.number.proofs.Laws.{IsChannel, channel-code, code-channel}
+use Rattle.word.specs.Fields.{low16, decodeWord}
+use Rattle.word.specs.Placing.{channelIn}
+use Rattle.word.specs.Pixels.{pixelOf, pixelsOf, wordChannel}
+use Rattle.word.proofs.Decoding.{is-word}
+
+-- ---- channels by threes
+
+pub length-pixels : (cs : List Channel) → length (pixelsOf cs) ≡ length cs / 3
+length-pixels [] = omega arith
+length-pixels (r ∷ []) = omega arith
+length-pixels (r ∷ g ∷ []) = omega arith
+length-pixels (r ∷ g ∷ b ∷ cs) = let e = length-pixels cs in omega arith
+
+-- pixel p
+pub getD-pixels : (cs : List Channel) (p : ℕ) (d : Pixel) → p < length cs / 3
+    → getD (pixelsOf cs) p d ≡ pixelOf (getD cs (3 * p) Black) (getD cs (3 * p + 1) Black) (getD cs (3 * p + 2) Black)
+getD-pixels [] p d h = absurd (omega arith)
+getD-pixels (r ∷ []) p d h = absurd (omega arith)
+getD-pixels (r ∷ g ∷ []) p d h = absurd (omega arith)
+getD-pixels (r ∷ g ∷ b ∷ cs) zero d h = refl
+getD-pixels (r ∷ g ∷ b ∷ cs) (suc p) d h =
+    let e₀ : 3 * suc p ≡ suc (suc (suc (3 * p))) = omega arith in
+    let e₁ : 3 * suc p + 1 ≡ suc (suc (suc (3 * p + 1))) = omega arith in
+    let e₂ : 3 * suc p + 2 ≡ suc (suc (suc (3 * p + 2))) = omega arith in
+    rw (e₁, e₂, e₀) (getD-pixels cs p d (omega arith))
+
+-- ---- the channels of words
+
+-- the channel of an accepted word
+pub word-channel : (k w : ℕ) {c : Channel} → decodeWord k w ≡ Holds c → wordChannel w ≡ c
+word-channel k w {c} e =
+    let q = is-word k w e .coded in
+    rw (← q .code, code-channel c (q .valid))
+
+-- whatever the word
+decoded-valid : (n : ℕ) (d : Decoded) → channelOfCode n ≡ d → IsChannel (channelIn d)
+decoded-valid n (Holds c) e = channel-code n c e .valid
+decoded-valid n (Refuses r) e = tt
+
+pub word-valid : (w : ℕ) → IsChannel (wordChannel w)
+word-valid w = decoded-valid (low16 w) _ refl

@@ -1,0 +1,22 @@
+-- The pixels that words stand for. Assumes nothing.
+use Prim.Native.Nat.{ℕ}
+use mathlib.Core.List.{List, [], _∷_}
+use Rattle.number.specs.declared.channel.Channel.{Channel}
+use Rattle.number.specs.declared.channel.Pixel.{Pixel}
+use Rattle.number.specs.Channels.{channelOfCode}
+use Rattle.word.specs.Fields.{low16}
+use Rattle.word.specs.Placing.{channelIn}
+
+-- "red, green, blue of each pixel in turn": channels by threes
+abbrev pub pixelOf : (red green blue : Channel) → Pixel
+pixelOf r g b = record { red = r; green = g; blue = b }
+
+abbrev pub pixelsOf : List Channel → List Pixel
+pixelsOf (r ∷ g ∷ b ∷ cs) = pixelOf r g b ∷ pixelsOf cs
+pixelsOf (r ∷ g ∷ []) = []
+pixelsOf (r ∷ []) = []
+pixelsOf [] = []
+
+-- the channel of an accepted word; any other counts as black where its lower half is no channel
+abbrev pub wordChannel : (w : ℕ) → Channel
+wordChannel w = channelIn (channelOfCode (low16 w))
