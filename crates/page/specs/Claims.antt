@@ -42,13 +42,13 @@ pub record MeanHalf (s : List ℕ) (A : ℤ) : Type 0 where
 
 -- Bytes, three a pixel in turn: what holds of each channel of a lit pixel and its level byte. More bytes may stand behind, and none is
 -- missing.
-abbrev pub EachLevel : (Holds : Pixel → Channel → ℕ → Type 0) → List Pixel → (bytes : List ℕ) → Type 0
-EachLevel Holds [] bytes = Unit
-EachLevel Holds (p ∷ ps) [] = ⊥
-EachLevel Holds (p ∷ ps) (r ∷ []) = ⊥
-EachLevel Holds (p ∷ ps) (r ∷ g ∷ []) = ⊥
-EachLevel Holds (p ∷ ps) (r ∷ g ∷ b ∷ bytes) =
-    (isLit p ≡ true → Holds p (p .red) r × Holds p (p .green) g × Holds p (p .blue) b) × EachLevel Holds ps bytes
+abbrev pub EachLevel : (Bound : Pixel → Channel → ℕ → Type 0) → List Pixel → (bytes : List ℕ) → Type 0
+EachLevel Bound [] bytes = Unit
+EachLevel Bound (p ∷ ps) [] = ⊥
+EachLevel Bound (p ∷ ps) (r ∷ []) = ⊥
+EachLevel Bound (p ∷ ps) (r ∷ g ∷ []) = ⊥
+EachLevel Bound (p ∷ ps) (r ∷ g ∷ b ∷ bytes) =
+    (isLit p ≡ true → Bound p (p .red) r × Bound p (p .green) g × Bound p (p .blue) b) × EachLevel Bound ps bytes
 
 -- "The level byte of that channel is less than 5/2 away from it": from the exact value under the page's key and the stored average of A
 pub record LevelHalf (s : List ℕ) (A : ℤ) (bytes : List ℕ) : Type 0 where
