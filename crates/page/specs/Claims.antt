@@ -22,7 +22,7 @@ use Rattle.tone.specs.Pixels.{isBlack}
 use Rattle.tone.specs.Tallies.{tallyOf}
 use Rattle.page.specs.declared.tally.TallyOrRefusal.{TallyOrRefusal}
 use Rattle.page.specs.declared.tally.TallyOrRefusal.the-variants.{Holds, Refuses}
-use Rattle.page.specs.Pages.{stripLuminances, stripAverage, tallyStrip}
+use Rattle.page.specs.Tallying.{stripLuminances, stripAverage, tallyStrip}
 use Rattle.page.specs.Mapping.{stripLevels}
 
 -- "A pixel is lit if any of its three channel words is; N counts these pixels."

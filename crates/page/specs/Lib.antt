@@ -1,3 +1,3 @@
-pub mod Pages
+pub mod Tallying
 pub mod Mapping
 pub mod Claims

@@ -13,8 +13,8 @@ use Rattle.tone.specs.declared.luminance.Luminance.{Luminance}
 use Rattle.tone.specs.declared.luminance.Luminance.the-variants.{Unlit, Lit}
 use Rattle.tone.specs.Levels.{reinhard, mappedLevel}
 use Rattle.tone.specs.Pixels.{luminanceOf}
-use Rattle.page.specs.declared.body.Levels.{Levels}
-use Rattle.page.specs.Pages.{stripAverage}
+use Rattle.page.specs.declared.body_levels.Levels.{Levels}
+use Rattle.page.specs.Tallying.{stripAverage}
 
 -- steps 4 to 6 for the channels of a pixel; those of an unlit one are black, and "Black gives 0"
 abbrev pub levelsUnder : Luminance → (K : ℕ) (average : Stored) → Pixel → Levels

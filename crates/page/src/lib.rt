@@ -1,4 +1,5 @@
 // A page tallied and mapped.
-mod body;
+mod body_levels;
+mod body_tally;
 pub mod map;
 pub mod tally;

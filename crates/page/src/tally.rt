@@ -1,8 +1,8 @@
 // The tally of a page.
 ghost use mathlib.Core.Path.{_≡_};
-ghost use Rattle.page.specs.Pages.{tallyStrip};
+ghost use Rattle.page.specs.Tallying.{tallyStrip};
 ghost use Rattle.page.specs.Claims.{TallyIsBounded};
-use crate::body::tally_pixels;
+use crate::body_tally::tally_pixels;
 use refusal::Refusal;
 use refusal::Verdict;
 use strip::check::check;

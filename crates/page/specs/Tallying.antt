@@ -15,7 +15,7 @@ use Rattle.tone.specs.declared.luminance.Luminance.the-variants.{Unlit, Lit}
 use Rattle.tone.specs.declared.tally.Tally.{Tally}
 use Rattle.tone.specs.Averages.{averageOf}
 use Rattle.tone.specs.Pixels.{luminanceOf}
-use Rattle.tone.specs.Tallies.{tallyOf}
+use Rattle.tone.specs.Tallies.{tallyOf, withLuminance}
 use Rattle.page.specs.declared.tally.TallyOrRefusal.{TallyOrRefusal}
 use Rattle.page.specs.declared.tally.TallyOrRefusal.the-variants.{Holds, Refuses}
 
@@ -28,6 +28,11 @@ ifLit (Lit y) ys = y ∷ ys
 unfoldable pub luminancesOf : List Pixel → List Stored
 luminancesOf [] = []
 luminancesOf (p ∷ ps) = ifLit (luminanceOf p) (luminancesOf ps)
+
+-- a tally with one pixel more
+abbrev pub withPixel : Tally → Luminance → Tally
+withPixel t Unlit = t
+withPixel t (Lit y) = withLuminance t y
 
 -- the pixels of accepted channel words
 abbrev pub wordPixels : List ℕ → List Pixel

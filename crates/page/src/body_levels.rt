@@ -1,13 +1,12 @@
-// The channel words of an accepted strip, pixel by pixel: their tally, and their levels.
+// The levels of the channel words of an accepted strip, pixel by pixel.
 ghost use mathlib.Core.Path.{_≡_};
 ghost use mathlib.Core.List.{map};
-ghost use Prim.Native.Nat.{_+_, _^_, _≤_, _<_};
+ghost use Prim.Native.Nat.{_+_, _≤_, _<_};
 ghost use lib.ListN.{length, set, replicate};
 ghost use Rattle.strip.specs.Output.{onto};
 ghost use Rattle.tone.specs.Levels.{IsKey, IsStoredAverage};
 ghost use Rattle.tone.specs.Pixels.{IsPixel};
-ghost use Rattle.tone.specs.Tallies.{tallyOf};
-ghost use Rattle.page.specs.Pages.{wordPixels, luminancesOf};
+ghost use Rattle.page.specs.Tallying.{wordPixels};
 ghost use Rattle.page.specs.Mapping.{levelsOf, levelBytes};
 use number::channel::Pixel;
 use number::ratio::Stored;
@@ -15,31 +14,7 @@ use tone::level::display;
 use tone::level::level;
 use tone::luminance::Luminance;
 use tone::luminance::pixel_luminance;
-use tone::tables::log_table;
-use tone::tally::Tally;
-use tone::tally::no_luminance;
-use tone::tally::with_luminance;
 use word::body::pixel_in;
-
-// The tally of all pixels.
-pub fn tally_pixels(words: &[u32]) -> Tally
-    requires { ⌜ length (now words) ≤ 2 ^ 40 ⌝ }
-    ensures { λ r. ⌜ r ≡ tallyOf (luminancesOf (wordPixels (now (words .entry)))) ⌝ }
-{
-    let logs = log_table();
-    let pixels = words.len() / 3;
-    let mut tally = no_luminance();
-    let mut p: usize = 0;
-    while p < pixels {
-        let at = 3 * p;
-        match pixel_luminance(pixel_in(words[at], words[at + 1], words[at + 2])) {
-            Luminance::Unlit => {},
-            Luminance::Lit(luminance) => tally = with_luminance(&logs, tally, luminance),
-        }
-        p += 1;
-    }
-    tally
-}
 
 // The level bytes of a pixel.
 pub struct Levels {

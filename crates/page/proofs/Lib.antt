@@ -1,0 +1,2 @@
+pub mod Luminances
+pub mod Walks

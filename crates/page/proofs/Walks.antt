@@ -1,0 +1,123 @@
+-- Loops over the pixels of channel words: one that tallies, one that stores levels. Assumes nothing.
+use Prim.Native.Nat.{ℕ, suc, _+_, _*_, _/_, _^_, _≤_, _<_}
+use mathlib.Core.Path.{_≡_, refl, sym, ap, _∙_}
+use mathlib.Core.List.{List, [], _∷_, _++_, map}
+use native.Mathlib.Numerals.{add-one}
+use native.Mathlib.Omega.{arith}
+use lib.ListN.{length, getD, set, take, drop, length-map, length-set, length-take, List·getD-map, drop-of-length-le}
+use lib.Seq.{take-suc, take-all, drop-cons, sets}
+use Rattle.number.specs.declared.channel.Channel.the-variants.{Black}
+use Rattle.number.specs.declared.channel.Pixel.{Pixel}
+use Rattle.number.specs.Channels.{channelOfCode}
+use Rattle.word.specs.Pixels.{pixelOf, wordChannel}
+use Rattle.word.proofs.Pixels.{length-pixels, getD-pixels}
+use Rattle.tone.specs.declared.tally.Tally.{Tally}
+use Rattle.tone.specs.Averages.{IsSum}
+use Rattle.tone.specs.Pixels.{luminanceOf}
+use Rattle.tone.specs.Tallies.{tallyOf}
+use Rattle.tone.proofs.Laws.{tally-is-sum}
+use Rattle.page.specs.declared.body_levels.Levels.{Levels}
+use Rattle.page.specs.Tallying.{luminancesOf, withPixel, wordPixels}
+use Rattle.page.specs.Mapping.{levelBytes}
+use Rattle.page.proofs.Luminances.{tally-pixel, luminances-few, pixels-valid, every-luminance, take-valid}
+
+-- ---- pixel p of the words
+
+black : wordChannel 0 ≡ Black
+unfolding channelOfCode
+black = refl
+
+pub length-word-pixels : (ws : List ℕ) → length (wordPixels ws) ≡ length ws / 3
+length-word-pixels ws = length-pixels (map wordChannel ws) ∙ ap (λ n. n / 3) (length-map ws wordChannel)
+
+abbrev pub pixelAt : List ℕ → (p : ℕ) → Pixel
+pixelAt ws p =
+    pixelOf (wordChannel (getD ws (3 * p) 0)) (wordChannel (getD ws (3 * p + 1) 0)) (wordChannel (getD ws (3 * p + 2) 0))
+
+module _ (ws : List ℕ) (p : ℕ) (inside : p < length ws / 3) where
+  there : p < length (wordPixels ws)
+  there = rw (length-word-pixels ws) inside
+
+  channel-at : (i : ℕ) → getD (map wordChannel ws) i Black ≡ wordChannel (getD ws i 0)
+  channel-at i = ap (λ c. getD (map wordChannel ws) i c) (sym black) ∙ List·getD-map wordChannel ws i 0
+
+  pixel-at : getD (wordPixels ws) p (pixelAt ws p) ≡ pixelAt ws p
+  pixel-at =
+      getD-pixels (map wordChannel ws) p (pixelAt ws p) (rw length-map inside)
+      ∙ rw (channel-at (3 * p), channel-at (3 * p + 1), channel-at (3 * p + 2))
+
+  pub one-more : take (p + 1) (wordPixels ws) ≡ take p (wordPixels ws) ++ (pixelAt ws p ∷ [])
+  one-more = rw (add-one p) (take-suc (wordPixels ws) p (pixelAt ws p) there ∙ rw pixel-at)
+
+  pub one-less : drop p (wordPixels ws) ≡ pixelAt ws p ∷ drop (p + 1) (wordPixels ws)
+  one-less = rw (add-one p) (drop-cons (wordPixels ws) p (pixelAt ws p) there ∙ rw pixel-at)
+
+-- ---- A loop that tallies: at each turn the tally is that of the pixels so far.
+
+unfoldable pub tallied : List ℕ → (p : ℕ) → Tally
+tallied ws p = tallyOf (luminancesOf (take p (wordPixels ws)))
+
+pub tallied-none : (ws : List ℕ) → tallyOf [] ≡ tallied ws 0
+unfolding tallied luminancesOf
+tallied-none ws = refl
+
+module _ (ws : List ℕ) (p : ℕ) {t : Tally} (inv : t ≡ tallied ws p) where
+  pub tallied-sum : length ws ≤ 2 ^ 40 → p < length ws / 3 → IsSum (t .count) (t .sum) × (t .count < 2 ^ 40)
+  unfolding tallied
+  tallied-sum small inside =
+      let ps = take p (wordPixels ws) in
+      let few = luminances-few ps in
+      let taken = length-take p (wordPixels ws) in
+      let n = length-word-pixels ws in
+      let less : length (luminancesOf ps) < 2 ^ 40 = omega arith in
+      rw inv (tally-is-sum (luminancesOf ps) (every-luminance ps (take-valid p (wordPixels ws) (pixels-valid ws))) (omega arith), less)
+
+  pub tallied-next : p < length ws / 3 → withPixel t (luminanceOf (pixelAt ws p)) ≡ tallied ws (p + 1)
+  unfolding tallied
+  tallied-next inside = rw (inv, one-more ws p inside) (sym (tally-pixel (take p (wordPixels ws)) (pixelAt ws p)))
+
+  pub tallied-all : length ws / 3 ≤ p → t ≡ tallyOf (luminancesOf (wordPixels ws))
+  unfolding tallied
+  tallied-all h = inv ∙ rw (take-all p (wordPixels ws) (rw (length-word-pixels ws) h))
+
+-- ---- A loop that stores: at each turn the output, once all that are left are stored too, is the one that is meant.
+
+three : (t : List ℕ) (j : ℕ) (l : Levels) (ls : List Levels)
+    → sets t j (levelBytes (l ∷ ls)) ≡ sets (set (set (set t j (l .red)) (j + 1) (l .green)) (j + 2) (l .blue)) (j + 3) (levelBytes ls)
+three t j l ls =
+    let e₁ : j + 1 ≡ suc j = omega arith in
+    let e₂ : j + 2 ≡ suc (suc j) = omega arith in
+    let e₃ : j + 3 ≡ suc (suc (suc j)) = omega arith in
+    rw (e₁, e₂, e₃)
+
+-- the levels of the pixels from number p on
+unfoldable pub filling : (Pixel → Levels) → List ℕ → (p : ℕ) → List ℕ → List ℕ
+filling f ws p t = sets t (3 * p) (levelBytes (map f (drop p (wordPixels ws))))
+
+length-bytes : (ls : List Levels) → length (levelBytes ls) ≡ 3 * length ls
+length-bytes [] = refl
+length-bytes (l ∷ ls) = let e = length-bytes ls in omega arith
+
+pub levels-fit : (f : Pixel → Levels) (ws : List ℕ) {n : ℕ} → length ws ≤ n → length (levelBytes (map f (wordPixels ws))) ≤ n
+levels-fit f ws h =
+    let e = length-word-pixels ws in
+    rw (length-bytes (map f (wordPixels ws)), length-map (wordPixels ws) f) (omega arith)
+
+pub filling-all : (f : Pixel → Levels) (ws t : List ℕ) → filling f ws 0 t ≡ sets t 0 (levelBytes (map f (wordPixels ws)))
+unfolding filling
+filling-all f ws t = refl
+
+module _ (f : Pixel → Levels) (ws : List ℕ) (p : ℕ) (t : List ℕ) {n : ℕ} {u : List ℕ}
+    (inv : (length t ≡ n) × (filling f ws p t ≡ u)) where
+  pub filling-next : {l : Levels} → p < length ws / 3 → l ≡ f (pixelAt ws p)
+      → let k = 3 * p in
+      let stored = set (set (set t k (l .red)) (k + 1) (l .green)) (k + 2) (l .blue) in
+      (length stored ≡ n) × (filling f ws (p + 1) stored ≡ u)
+  unfolding filling
+  filling-next inside e =
+      let k : 3 * (p + 1) ≡ 3 * p + 3 = omega arith in
+      (simp length-set (inv .0), rw (k, e) (sym (three t (3 * p) _ (map f (drop (p + 1) (wordPixels ws)))) ∙ (rw (one-less ws p inside) at (inv .1))))
+
+  pub filling-done : length ws / 3 ≤ p → t ≡ u
+  unfolding filling
+  filling-done h = rw (drop-of-length-le (wordPixels ws) {i = p} (rw (length-word-pixels ws) h)) at (inv .1)

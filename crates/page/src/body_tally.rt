@@ -1,0 +1,49 @@
+// The channel words of an accepted strip tallied, pixel by pixel.
+ghost use mathlib.Core.Path.{_≡_};
+ghost use Prim.Native.Nat.{_^_, _≤_, _<_};
+ghost use lib.ListN.{length};
+ghost use Rattle.tone.specs.Averages.{IsSum};
+ghost use Rattle.tone.specs.Pixels.{IsPixel, luminanceOf};
+ghost use Rattle.tone.specs.Tables.{IsLogTable};
+ghost use Rattle.tone.specs.Tallies.{tallyOf};
+ghost use Rattle.page.specs.Tallying.{withPixel, wordPixels, luminancesOf};
+use number::channel::Pixel;
+use tone::luminance::Luminance;
+use tone::luminance::pixel_luminance;
+use tone::tables::log_table;
+use tone::tally::Tally;
+use tone::tally::no_luminance;
+use tone::tally::with_luminance;
+use word::body::pixel_in;
+
+// A tally with one pixel more, which counts where it is lit.
+fn with_pixel(logs: &[u16; 128], tally: Tally, pixel: Pixel) -> Tally
+    requires { ⌜ IsLogTable (now logs) × IsPixel pixel × IsSum (tally .count) (tally .sum) × (tally .count < 2 ^ 40) ⌝ }
+    ensures { λ r. ⌜ r ≡ withPixel tally (luminanceOf pixel) ⌝ }
+{
+    match pixel_luminance(pixel) {
+        Luminance::Unlit => tally,
+        Luminance::Lit(luminance) => with_luminance(logs, tally, luminance),
+    }
+}
+
+// The tally of all pixels.
+pub fn tally_pixels(words: &[u32]) -> Tally
+    requires { ⌜ length (now words) ≤ 2 ^ 40 ⌝ }
+    ensures { λ r. ⌜ r ≡ tallyOf (luminancesOf (wordPixels (now (words .entry)))) ⌝ }
+{
+    let logs = log_table();
+    let pixels = words.len() / 3;
+    let mut tally = no_luminance();
+    let mut p: usize = 0;
+    while p < pixels {
+        let at = 3 * p;
+        tally = with_pixel(
+            &logs,
+            tally,
+            pixel_in(words[at], words[at + 1], words[at + 2]),
+        );
+        p += 1;
+    }
+    tally
+}
