@@ -1,2 +1,3 @@
 pub mod Luminances
 pub mod Walks
+pub mod Strips

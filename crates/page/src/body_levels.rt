@@ -1,9 +1,12 @@
-// The levels of the channel words of an accepted strip, pixel by pixel.
+// The levels of an accepted strip, pixel by pixel.
 ghost use mathlib.Core.Path.{_≡_};
 ghost use mathlib.Core.List.{map};
 ghost use Prim.Native.Nat.{_+_, _≤_, _<_};
 ghost use lib.ListN.{length, set, replicate};
+ghost use Rattle.refusal.specs.declared.Verdict.{Verdict};
+ghost use Rattle.strip.specs.Checks.{headerFields, channelCount, checkStrip};
 ghost use Rattle.strip.specs.Output.{onto};
+ghost use Rattle.strip.specs.Reading.{stripPixels};
 ghost use Rattle.tone.specs.Levels.{IsKey, IsStoredAverage};
 ghost use Rattle.tone.specs.Pixels.{IsPixel};
 ghost use Rattle.page.specs.Tallying.{wordPixels};
@@ -14,7 +17,10 @@ use tone::level::display;
 use tone::level::level;
 use tone::luminance::Luminance;
 use tone::luminance::pixel_luminance;
+use word::body::BODY_START;
 use word::body::pixel_in;
+use word::header::low_half;
+use word::header::pixel_count;
 
 // The level bytes of a pixel.
 pub struct Levels {
@@ -56,8 +62,8 @@ fn store_levels(levels: Levels, at: usize, output: &mut [u8])
     output[at + 2] = levels.blue;
 }
 
-// The levels of all pixels under a key and an average, into the front of the output.
-pub fn fill_levels(words: &[u32], key: u64, average: Stored, output: &mut [u8])
+// The levels of channel words under a key and an average, into the front of the output.
+fn fill_levels(words: &[u32], key: u64, average: Stored, output: &mut [u8])
     requires { ⌜ IsKey key × IsStoredAverage average × (length (now words) ≤ length (now output)) ⌝ }
     ensures { λ _. ⌜ now (output .exit) ≡ onto (levelBytes (map (levelsOf key average) (wordPixels (now (words .entry))))) (now (output .entry)) ⌝ }
 {
@@ -69,6 +75,16 @@ pub fn fill_levels(words: &[u32], key: u64, average: Stored, output: &mut [u8])
         store_levels(pixel_levels(key, average, pixel), at, output);
         p += 1;
     }
+}
+
+// The levels of an accepted strip under an average, into the front of the output.
+pub fn strip_levels(strip: &[u32], average: Stored, output: &mut [u8])
+    requires { ⌜ (checkStrip (now strip) ≡ Verdict.Accepted) × IsStoredAverage average × (channelCount (now strip) ≤ length (now output)) ⌝ }
+    ensures { λ _. ⌜ now (output .exit) ≡ onto (levelBytes (map (levelsOf (headerFields (now (strip .entry)) .key) average) (stripPixels (now (strip .entry))))) (now (output .entry)) ⌝ }
+{
+    let end = BODY_START + 3 * pixel_count(strip[0]);
+    let key = low_half(strip[1]) as u64;
+    fill_levels(&strip[BODY_START..end], key, average, output);
 }
 
 // Level 0 in the first `count` bytes of the output.

@@ -1,12 +1,14 @@
-// The channel words of an accepted strip tallied, pixel by pixel.
+// An accepted strip tallied, pixel by pixel.
 ghost use mathlib.Core.Path.{_≡_};
 ghost use Prim.Native.Nat.{_^_, _≤_, _<_};
 ghost use lib.ListN.{length};
+ghost use Rattle.refusal.specs.declared.Verdict.{Verdict};
+ghost use Rattle.strip.specs.Checks.{checkStrip};
 ghost use Rattle.tone.specs.Averages.{IsSum};
 ghost use Rattle.tone.specs.Pixels.{IsPixel, luminanceOf};
 ghost use Rattle.tone.specs.Tables.{IsLogTable};
 ghost use Rattle.tone.specs.Tallies.{tallyOf};
-ghost use Rattle.page.specs.Tallying.{withPixel, wordPixels, luminancesOf};
+ghost use Rattle.page.specs.Tallying.{withPixel, wordPixels, luminancesOf, stripLuminances};
 use number::channel::Pixel;
 use tone::luminance::Luminance;
 use tone::luminance::pixel_luminance;
@@ -14,7 +16,9 @@ use tone::tables::log_table;
 use tone::tally::Tally;
 use tone::tally::no_luminance;
 use tone::tally::with_luminance;
+use word::body::BODY_START;
 use word::body::pixel_in;
+use word::header::pixel_count;
 
 // A tally with one pixel more, which counts where it is lit.
 fn with_pixel(logs: &[u16; 128], tally: Tally, pixel: Pixel) -> Tally
@@ -27,8 +31,8 @@ fn with_pixel(logs: &[u16; 128], tally: Tally, pixel: Pixel) -> Tally
     }
 }
 
-// The tally of all pixels.
-pub fn tally_pixels(words: &[u32]) -> Tally
+// The tally of channel words.
+fn tally_pixels(words: &[u32]) -> Tally
     requires { ⌜ length (now words) ≤ 2 ^ 40 ⌝ }
     ensures { λ r. ⌜ r ≡ tallyOf (luminancesOf (wordPixels (now (words .entry)))) ⌝ }
 {
@@ -46,4 +50,13 @@ pub fn tally_pixels(words: &[u32]) -> Tally
         p += 1;
     }
     tally
+}
+
+// The tally of an accepted strip.
+pub fn strip_tally(strip: &[u32]) -> Tally
+    requires { ⌜ checkStrip (now strip) ≡ Verdict.Accepted ⌝ }
+    ensures { λ r. ⌜ r ≡ tallyOf (stripLuminances (now (strip .entry))) ⌝ }
+{
+    let end = BODY_START + 3 * pixel_count(strip[0]);
+    tally_pixels(&strip[BODY_START..end])
 }

@@ -2,15 +2,13 @@
 ghost use mathlib.Core.Path.{_≡_};
 ghost use Rattle.page.specs.Tallying.{tallyStrip};
 ghost use Rattle.page.specs.Claims.{TallyIsBounded};
-use crate::body_tally::tally_pixels;
+use crate::body_tally::strip_tally;
 use refusal::Refusal;
 use refusal::Verdict;
 use strip::check::check;
 use tone::average::Average;
 use tone::average::average_of;
 use tone::tally::Tally;
-use word::body::BODY_START;
-use word::header::pixel_count;
 
 // The tally of an accepted strip with its average, or its refusal with the index where it was found.
 pub enum TallyOrRefusal {
@@ -26,8 +24,7 @@ pub fn tally(strip: &[u32]) -> TallyOrRefusal
     let verdict = check(strip);
     match verdict {
         Verdict::Accepted => {
-            let end = BODY_START + 3 * pixel_count(strip[0]);
-            let tally = tally_pixels(&strip[BODY_START..end]);
+            let tally = strip_tally(strip);
             TallyOrRefusal::Holds(tally, average_of(tally.count, tally.sum))
         },
         Verdict::Refused(refusal, i) => TallyOrRefusal::Refuses(refusal, i),

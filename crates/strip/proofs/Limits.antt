@@ -1,6 +1,6 @@
 -- What an accepted header, strip or row keeps to. Assumes nothing.
 use Prim.Native.Nat.{ℕ, _+_, _*_, _≤_}
-use mathlib.Core.Path.{_≡_}
+use mathlib.Core.Path.{_≡_, refl}
 use mathlib.Core.List.{List}
 use mathlib.Core.Bool.{true}
 use native.Mathlib.Nat.{mul-le-mul-left, mul-suc}
@@ -9,7 +9,7 @@ use borrow.Author.Tests.{eqb-true, leb-true, ltb-true}
 use lib.ListN.{length}
 use Rattle.refusal.specs.declared.Verdict.{Verdict}
 use Rattle.refusal.specs.declared.Verdict.the-variants.{Accepted}
-use Rattle.refusal.proofs.Laws.{require-passed, and-passed}
+use Rattle.refusal.proofs.Laws.{require-passed, and-passed, and-met}
 use Rattle.word.specs.Words.{endIndex, pixels, sizeFits, keyFits, sizeWord, keyWord, endWord}
 use Rattle.word.specs.Placing.{firstRefusal}
 use Rattle.strip.specs.Claims.{RowsInBody}
@@ -22,6 +22,7 @@ use Rattle.strip.specs.Checks.{
   checkHead,
   checkBody,
   checkWith,
+  checkStrip,
   checkOutput,
   checkRow,
 }
@@ -68,6 +69,13 @@ whole added s e =
       b .0,
       record { head = headed s (a .0); channels = c .0; end = eqb-true _ _ (require-passed _ _ _ _ (c .1) .0) },
     )
+
+-- and whatever it adds, the strip itself is accepted
+pub strip-accepted : (added : Verdict) (s : List ℕ) → checkWith added s ≡ Accepted → checkStrip s ≡ Accepted
+unfolding checkStrip checkWith
+strip-accepted added s e =
+    let a = and-passed _ _ e in
+    and-met (a .0) (and-met refl (and-passed _ _ (a .1) .1))
 
 -- ---- what a call may rely on
 

@@ -1,0 +1,30 @@
+-- `page::body_tally::strip_tally` meets its contract. Assumes nothing.
+use borrow.Author.Needs.{needs}
+use mathlib.Core.Path.{sym, ap, _∙_}
+use native.Mathlib.Omega.{arith}
+use denote.Ref.{now}
+use Rattle.strip.proofs.Limits.{Whole}
+use Rattle.tone.specs.Tallies.{tallyOf}
+use Rattle.page.specs.Tallying.{wordPixels, luminancesOf}
+use Rattle.page.proofs.Strips.{accepted, body-lent, strip-pixels, few-pixels}
+use Rattle.page.proofs.body_tally.strip_tally.Statement.{statement}
+use Rattle.page.proofs.body_tally.strip_tally.Tie as tie
+
+strip : (c : tie.After-pixel-count) → Whole (now (c .before .before .before .args .strip))
+strip c = accepted _ (c .before .before .before .pre)
+
+returns : tie.Need-returns
+returns c =
+    let p = c .before .before in
+    let s = now (p .before .before .before .args .strip) in
+    rw (body-lent s _ (p .pixel-count .ensures), ← strip-pixels s (strip p)) at (c .tally-pixels .ensures)
+
+pub strip-tally-spec : {M : Type 1} → statement M
+strip-tally-spec =
+    tie.close
+    (tie.spec
+    (λ c. omega (arith, accepted _ (c .before .before .pre) .head .long)) (λ c κs. search needs)
+    (λ c. omega (arith, c .pixel-count .ensures, few-pixels _ (strip c)))
+    (λ c. omega (arith, c .pixel-count .ensures, few-pixels _ (strip c))) (λ c. search needs) (λ c. search needs)
+    (λ c. omega (arith, c .pixel-count .ensures, strip c .head .long))
+    (λ c κs. let p = c .before in omega (arith, c .tally-pixels-arg .given, p .pixel-count .ensures, few-pixels _ (strip p))) returns)
