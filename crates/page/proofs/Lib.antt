@@ -1,3 +1,4 @@
 pub mod Luminances
 pub mod Walks
 pub mod Strips
+pub mod Bounds

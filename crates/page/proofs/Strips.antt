@@ -1,10 +1,15 @@
 -- What the tally and the levels of an accepted strip rest on. Assumes nothing.
 use Prim.Native.Nat.{ℕ, _+_, _-_, _*_, _^_, _≤_}
 use mathlib.Core.Path.{_≡_, _∙_}
-use mathlib.Core.List.{List}
+use mathlib.Core.List.{List, map}
 use native.Mathlib.Nat.{add-sub-cancel-left}
 use native.Mathlib.Omega.{arith}
-use lib.ListN.{length, take, drop, length-map}
+use lib.IntN.{ℤ}
+use lib.ListN.{length, take, drop, replicate}
+use mir.Syntax.{w64}
+use mir.Val.{toZ, ofZ}
+use mir.Facts.{toZ-ofZ}
+use Rattle.number.specs.declared.ratio.Stored.{Stored}
 use Rattle.number.proofs.Laws.{Every}
 use Rattle.refusal.specs.declared.Verdict.the-variants.{Accepted}
 use Rattle.word.specs.Words.{pixels}
@@ -16,12 +21,16 @@ use Rattle.strip.specs.Reading.{stripChannels, stripPixels}
 use Rattle.strip.proofs.Limits.{Whole, whole, strip-accepted}
 use Rattle.strip.proofs.Bodies.{pixels-in}
 use Rattle.strip.proofs.RoundTrip.{page-read}
-use Rattle.tone.specs.Averages.{IsSum}
+use Rattle.tone.specs.declared.average.Average.{Average}
+use Rattle.tone.specs.declared.average.Average.the-variants.{Absent, Present}
+use Rattle.tone.specs.declared.tally.Tally.{Tally}
+use Rattle.tone.specs.Averages.{averageOf, IsSum, HasAverage}
 use Rattle.tone.specs.Levels.{IsKey}
 use Rattle.tone.specs.Pixels.{IsPixel}
-use Rattle.tone.specs.Tallies.{sumOf}
-use Rattle.tone.proofs.Laws.{tally-is-sum}
-use Rattle.page.specs.Tallying.{wordPixels, stripLuminances}
+use Rattle.tone.specs.Tallies.{sumOf, tallyOf}
+use Rattle.tone.proofs.Laws.{tally-is-sum, sum-fits, sum-has-average}
+use Rattle.page.specs.Tallying.{wordPixels, stripLuminances, stripAverage}
+use Rattle.page.specs.Mapping.{levelsOf, levelBytes, stripLevels}
 use Rattle.page.proofs.Luminances.{pixels-valid, every-luminance, luminances-few}
 
 pub accepted : (s : List ℕ) → checkStrip s ≡ Accepted → Whole s
@@ -58,3 +67,22 @@ module _ (s : List ℕ) (ok : Whole s) where
       let n = count-pixels in
       let most = few-pixels in
       tally-is-sum (stripLuminances s) (every-luminance (stripPixels s) strip-valid) (omega arith)
+
+  -- the tally as a call hands it on, its sum in 64 bits
+  module _ (t : Tally) (told : t ≡ tallyOf (stripLuminances s)) where
+    sum-held : toZ w64 (ofZ w64 (t .sum)) ≡ t .sum
+    sum-held = toZ-ofZ (rw told (sum-fits strip-sum))
+
+    pub has-average : HasAverage (t .count) (toZ w64 (ofZ w64 (t .sum)))
+    has-average = rw (sum-held, told) (sum-has-average strip-sum)
+
+    pub average-is : {a : Average} → a ≡ averageOf (t .count) (toZ w64 (ofZ w64 (t .sum))) → a ≡ stripAverage s
+    average-is e = e ∙ rw (sum-held, told)
+
+  -- its levels
+  pub levels-absent : {n : ℕ} → stripAverage s ≡ Absent → n ≡ pixels (headerFields s) → replicate (3 * n) 0 ≡ stripLevels s
+  levels-absent e f = rw (e, f, count-pixels)
+
+  pub levels-present : {A : ℤ} {a : Stored} → stripAverage s ≡ Present A a
+      → levelBytes (map (levelsOf (headerFields s .key) a) (stripPixels s)) ≡ stripLevels s
+  levels-present e = rw e

@@ -1,15 +1,17 @@
 -- The range of an average in steps and that of the stored average. Assumes nothing.
-use mathlib.Core.Path.{_≡_, refl, ap, _∙_}
+use mathlib.Core.Path.{_≡_, refl, ap, subst, _∙_}
 use mathlib.Core.Bool.{Bool, true, false, cond}
-use Prim.Native.Nat.{ℕ, _+_, _-_, _/_, _%_, _≤_, _<_, zero-le}
-use native.Mathlib.Nat.{div-lt-iff-lt-mul}
+use Prim.Native.Nat.{ℕ, zero, suc, _+_, _-_, _/_, _%_, _≤_, _<_, zero-le}
+use native.Mathlib.Nat.{div-lt-iff-lt-mul, pos-of-ne-zero}
 use native.Mathlib.Omega.{arith}
 use lib.Dec.{eqb, le→leb, lit<}
 use lib.IntN.{ℤ, pos, subℕ, natAbs, _+ℤ_}
 use lib.Signed.{_≤ℤ_, leZ-yes}
-use borrow.Author.Tests.{eqb-true}
+use borrow.Author.Tests.{eqb-true, eqb-false}
 use Rattle.number.proofs.Laws.{same-difference}
-use Rattle.tone.specs.Averages.{floorDiv, floorMod, storedAverage, IsSum, IsAverage, HasAverage}
+use Rattle.number.specs.declared.ratio.Stored.{Stored}
+use Rattle.tone.specs.Averages.{floorDiv, floorMod, storedAverage, averageOf, IsSum, IsAverage, HasAverage}
+use Rattle.tone.specs.declared.average.Average.the-variants.{Absent, Present}
 use Rattle.tone.specs.Levels.{IsStoredAverage}
 use Rattle.tone.specs.Tables.{rootOf}
 use Rattle.tone.proofs.Differences.{sub-pos, sub-plus, sub-least, sub-most, lowered}
@@ -83,3 +85,35 @@ module _ (A : ℤ) (v : IsAverage A) where
           let r = raised A v .range in
           rw (exponent-is 129 (omega arith) (omega arith))
           (record { least = omega (arith, r .least); most = omega (arith, r .most); mantissa = root-mantissa (floorMod A 256) })
+
+-- ---- an average that is reported is that of at least one luminance, and none is reported where there is no luminance
+
+pub record Reported (n : ℕ) (z A : ℤ) (average : Stored) : Type 0 where
+  pub lit : 0 < n
+  pub steps : floorDiv z n ≡ A
+  pub stored : storedAverage A ≡ average
+
+module _ (n : ℕ) (z : ℤ) where
+  pub reported : {A : ℤ} {average : Stored} → averageOf n z ≡ Present A average → Reported n z A average
+  unfolding averageOf
+  reported {A} {average} = by (eqb n 0) refl
+    where
+      by : (b : Bool) → eqb n 0 ≡ b → cond b Absent (Present (floorDiv z n) (storedAverage (floorDiv z n))) ≡ Present A average
+          → Reported n z A average
+      by true q e = let clash : suc zero ≡ zero = cc in record { lit = omega arith; steps = cc; stored = cc }
+      by false q e =
+          let same : floorDiv z n ≡ A = cc in
+          record { lit = pos-of-ne-zero (eqb-false n 0 q); steps = same; stored = cc }
+
+  pub absent : averageOf n z ≡ Absent → n ≡ 0
+  unfolding averageOf
+  absent = by (eqb n 0) refl
+    where
+      by : (b : Bool) → eqb n 0 ≡ b → cond b Absent (Present (floorDiv z n) (storedAverage (floorDiv z n))) ≡ Absent → n ≡ 0
+      by true q e = eqb-true n 0 q
+      by false q e = let clash : suc zero ≡ zero = cc in omega arith
+
+  pub reported-range : {A : ℤ} {average : Stored} → IsSum n z → averageOf n z ≡ Present A average → IsStoredAverage average
+  reported-range s e =
+      let r = reported e in
+      subst IsStoredAverage (r .stored) (stored-average-range _ (subst IsAverage (r .steps) (average-in-range (r .lit) s)))

@@ -5,11 +5,11 @@ pub use Rattle.tone.proofs.Luminances.{luminance-stores, luminance-rang
 -- step 2: what T promises, and the range of a luminance's steps
 pub use Rattle.tone.proofs.Rules.{log-below, log-above}
 pub use Rattle.tone.proofs.Sums.{steps-least, steps-most}
--- tallies: of no luminance, of lists one after the other, of one luminance more; the range of the sum
-pub use Rattle.tone.proofs.Sums.{tally-none, tally-append, tally-snoc, sum-more, tally-is-sum}
--- step 3: what X promises; the ranges of an average in steps and of a stored average
+-- tallies: of no luminance, of lists one after the other, of one luminance more; the range of the sum, which 64 bits hold
+pub use Rattle.tone.proofs.Sums.{tally-none, tally-append, tally-snoc, sum-more, tally-is-sum, sum-fits}
+-- step 3: what X promises; the ranges of an average in steps and of a stored average; when one is reported
 pub use Rattle.tone.proofs.Rules.{root-below, root-above}
-pub use Rattle.tone.proofs.Averages.{sum-has-average, stored-average-range}
+pub use Rattle.tone.proofs.Averages.{sum-has-average, stored-average-range, Reported, reported, absent, reported-range}
 -- steps 4 to 6: the range of a scaled luminance; black gives 0
 pub use Rattle.tone.proofs.Scaled.{is-scaled}
 pub use Rattle.tone.proofs.LevelSteps.{black-level}

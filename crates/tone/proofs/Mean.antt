@@ -19,6 +19,7 @@ use Rattle.tone.specs.Pixels.{IsLuminance}
 use Rattle.tone.specs.Tables.{logOf}
 use Rattle.tone.specs.Tallies.{sumOf}
 use Rattle.tone.specs.Fractions.{power}
+use Rattle.tone.proofs.Averages.{reported}
 use Rattle.tone.proofs.Differences.{sub-minus, sub-plus, sub-times}
 use Rattle.tone.proofs.Division.{floor-sub}
 use Rattle.tone.proofs.Powers.{power-at-most, below-power}
@@ -118,17 +119,7 @@ rounded-down M m =
     let f : 1 * (logOf M + 1) + 256 ≡ suc (logOf M) + 256 = omega arith in
     record { low = rw e (log-below M m); high = rw f (log-above M m) }
 
--- what is reported is the average of at least one luminance
-reported : (n : ℕ) (z A : ℤ) (average : Stored) → averageOf n z ≡ Present A average → (0 < n) × (floorDiv z n ≡ A)
-unfolding averageOf
-reported n z A average = by (eqb n 0) refl
-  where
-    by : (b : Bool) → eqb n 0 ≡ b → cond b Absent (Present (floorDiv z n) (storedAverage (floorDiv z n))) ≡ Present A average
-        → (0 < n) × (floorDiv z n ≡ A)
-    by true q e = let clash : suc zero ≡ zero = cc in (omega arith, cc)
-    by false q e = (pos-of-ne-zero (eqb-false n 0 q), cc)
-
 pub mean-bound : MeanIsBounded
 mean-bound ys h A average e =
-    let r = reported (length ys) (sumOf ys) A average e in
-    subst (λ z. MeanBound z ys) (r .1) (mean-within 1 256 rounded-down _ _ refl refl ys h (r .0))
+    let r = reported (length ys) (sumOf ys) e in
+    subst (λ z. MeanBound z ys) (r .steps) (mean-within 1 256 rounded-down _ _ refl refl ys h (r .lit))

@@ -1,0 +1,142 @@
+-- Demand 3 of a page. Assumes nothing.
+use Prim.Native.Nat.{ℕ, zero, suc, _<_}
+use mathlib.Core.Path.{_≡_, refl, sym, subst, _∙_}
+use mathlib.Core.Bool.{true}
+use mathlib.Core.List.{List, [], _∷_, _++_, map}
+use mathlib.Core.Logic.{inl, inr}
+use native.Mathlib.Omega.{arith}
+use lib.IntN.{ℤ}
+use lib.ListN.{length}
+use Rattle.number.specs.declared.channel.Pixel.{Pixel}
+use Rattle.number.specs.declared.ratio.Stored.{Stored}
+use Rattle.number.proofs.Laws.{Every}
+use Rattle.refusal.specs.declared.Refusal.{Refusal}
+use Rattle.refusal.specs.declared.Verdict.{Verdict}
+use Rattle.refusal.specs.declared.Verdict.the-variants.{Accepted, Refused}
+use Rattle.strip.specs.Checks.{headerFields, checkStrip, checkOutput}
+use Rattle.strip.specs.Output.{onto, after}
+use Rattle.strip.specs.Reading.{stripPixels}
+use Rattle.strip.proofs.Limits.{Whole}
+use Rattle.tone.specs.declared.average.Average.{Average}
+use Rattle.tone.specs.declared.average.Average.the-variants.{Absent, Present}
+use Rattle.tone.specs.declared.tally.Tally.{Tally}
+use Rattle.tone.specs.Averages.{storedAverage, averageOf}
+use Rattle.tone.specs.Claims.{LevelBound}
+use Rattle.tone.specs.Levels.{IsKey, IsStoredAverage, reinhard}
+use Rattle.tone.specs.Pixels.{IsPixel}
+use Rattle.tone.specs.Tallies.{sumOf, tallyOf}
+use Rattle.tone.proofs.Laws.{reported, absent, reported-range, mean-bound, level-bound}
+use Rattle.page.specs.declared.tally.TallyOrRefusal.{TallyOrRefusal}
+use Rattle.page.specs.declared.tally.TallyOrRefusal.the-variants.{Holds, Refuses}
+use Rattle.page.specs.Tallying.{stripLuminances, stripAverage, tallyUnder, tallyStrip}
+use Rattle.page.specs.Mapping.{levelsOf, levelBytes, pageLevels, stripLevels}
+use Rattle.page.specs.Claims.{
+  isLit,
+  litCount,
+  MeanHalf,
+  EachLevel,
+  LevelHalf,
+  WhereLit,
+  TallyIsBounded,
+  MapIsBounded,
+  Bounded,
+  DemandThree,
+}
+use Rattle.page.proofs.Luminances.{storedLuminance, lit-luminance, lit-count, every-luminance}
+use Rattle.page.proofs.Strips.{accepted, mapped-strip, strip-key, strip-valid, strip-sum}
+
+-- ---- the levels of a list of pixels, with anything behind them
+
+module _ (K : ℕ) (key : IsKey K) (a : Stored) (average : IsStoredAverage a) where
+  pub levels-bound : (ps : List Pixel) (rest : List ℕ) → Every IsPixel ps
+      → EachLevel (LevelBound reinhard K a) ps (levelBytes (map (levelsOf K a) ps) ++ rest)
+  levels-bound [] rest valid = tt
+  levels-bound (p ∷ ps) rest valid =
+      ( (λ lit.
+          let e = lit-luminance p lit in
+          let bound = level-bound p (valid .0) (storedLuminance p) e in
+          rw e (bound (p .red) (inl refl) K key a average,
+            bound (p .green) (inr (inl refl)) K key a average,
+            bound (p .blue) (inr (inr refl)) K key a average)),
+        levels-bound ps rest (valid .1))
+
+-- ---- a strip
+
+module _ (s : List ℕ) (ok : Whole s) where
+  -- where an average is absent, no pixel is lit
+  pub where-lit : (Half : ℤ → Type 0) → ((A : ℤ) → stripAverage s ≡ Present A (storedAverage A) → Half A)
+      → WhereLit s (stripAverage s) Half
+  where-lit Half half = by (stripAverage s) refl
+    where
+      by : (a : Average) → stripAverage s ≡ a → WhereLit s a Half
+      by Absent e = sym (lit-count (stripPixels s)) ∙ absent _ _ e
+      by (Present A average) e = half A (e ∙ rw (reported _ _ e .stored))
+
+  pub mean-half : {A : ℤ} {average : Stored} → stripAverage s ≡ Present A average → MeanHalf s A
+  mean-half {A} {average} e =
+      record {
+        count = lit-count (stripPixels s);
+        mean = mean-bound (stripLuminances s) (every-luminance (stripPixels s) (strip-valid s ok)) A average e;
+      }
+
+  pub level-half : {A : ℤ} (output : List ℕ) → stripAverage s ≡ Present A (storedAverage A) → LevelHalf s A (onto (stripLevels s) output)
+  level-half output e =
+      record {
+        each = rw e (levels-bound _ (strip-key s ok) _ (reported-range _ _ (strip-sum s ok) e) (stripPixels s) _ (strip-valid s ok));
+      }
+
+-- ---- what the calls promise
+
+-- the answer of a tally
+module _ (s : List ℕ) where
+  pub answered : {t : Tally} {a : Average} → checkStrip s ≡ Accepted → t ≡ tallyOf (stripLuminances s) → a ≡ stripAverage s
+      → Holds t a ≡ tallyStrip s
+  unfolding tallyStrip
+  answered e f g = rw (e, f, g)
+
+  pub refused : {r : Refusal} {i : ℕ} → checkStrip s ≡ Refused r i → Refuses r i ≡ tallyStrip s
+  unfolding tallyStrip
+  refused e = rw e
+
+pub tally-bound : (s : List ℕ) → TallyIsBounded s (tallyStrip s)
+unfolding tallyStrip
+tally-bound s = by (checkStrip s) refl
+  where
+    by : (v : Verdict) → checkStrip s ≡ v → TallyIsBounded s (tallyUnder v (tallyOf (stripLuminances s)))
+    by Accepted e = where-lit s (accepted s e) (MeanHalf s) (λ A q. mean-half s (accepted s e) q)
+    by (Refused r i) e = tt
+
+pub bounded : (s : List ℕ) {r : TallyOrRefusal} → r ≡ tallyStrip s → (r ≡ tallyStrip s) × TallyIsBounded s r
+bounded s e = (e, subst (TallyIsBounded s) (sym e) (tally-bound s))
+
+pub map-bound : (s output : List ℕ) → checkStrip s ≡ Accepted → MapIsBounded s Accepted (onto (stripLevels s) output)
+map-bound s output e = where-lit s (accepted s e) _ (λ A q. level-half s (accepted s e) output q)
+
+-- the promise of mapping
+abbrev Mapped : (s old : List ℕ) → Verdict → (new : List ℕ) → Type 0
+Mapped s old v new = (v ≡ checkOutput s (length old)) × (new ≡ after v (stripLevels s) old) × MapIsBounded s v new
+
+pub left-alone : (s old : List ℕ) {v : Verdict} {r : Refusal} {i : ℕ} → v ≡ checkOutput s (length old) → v ≡ Refused r i
+    → Mapped s old v old
+left-alone s old e f = (e, rw f, rw f tt)
+
+pub filled : (s old new : List ℕ) → Accepted ≡ checkOutput s (length old) → new ≡ onto (stripLevels s) old → Mapped s old Accepted new
+filled s old new e f = (e, f, rw f (map-bound s old (mapped-strip s (length old) (sym e))))
+
+-- ---- both together
+
+module _ (s bytes : List ℕ) (ok : checkStrip s ≡ Accepted) (lit : 0 < litCount (stripPixels s)) where
+  joined : (a : Average) → stripAverage s ≡ a → TallyIsBounded s (Holds (tallyOf (stripLuminances s)) a)
+      → WhereLit s a (λ A. LevelHalf s A bytes) → Bounded s bytes
+  joined Absent e mean levels = absurd (omega (arith, lit, mean))
+  joined (Present A average) e mean levels =
+      record {
+        A = A;
+        reported = sym (answered s ok refl (rw (reported _ _ e .stored) (sym e)));
+        bounds = record { mean = mean; levels = levels };
+      }
+
+pub demand-three : DemandThree
+demand-three s output e lit =
+    let ok = mapped-strip s (length output) e in
+    joined s _ ok lit (stripAverage s) refl (rw (← answered s ok refl refl) at (tally-bound s)) (map-bound s output ok)
