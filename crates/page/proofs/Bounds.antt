@@ -51,14 +51,17 @@ module _ (K : ℕ) (key : IsKey K) (a : Stored) (average : IsStoredAverage a) wh
   pub levels-bound : (ps : List Pixel) (rest : List ℕ) → Every IsPixel ps
       → EachLevel (LevelBound reinhard K a) ps (levelBytes (map (levelsOf K a) ps) ++ rest)
   levels-bound [] rest valid = tt
-  levels-bound (p ∷ ps) rest valid =
-      ( (λ lit.
-          let e = lit-luminance p lit in
-          let bound = level-bound p (valid .0) (storedLuminance p) e in
-          rw e (bound (p .red) (inl refl) K key a average,
-            bound (p .green) (inr (inl refl)) K key a average,
-            bound (p .blue) (inr (inr refl)) K key a average)),
-        levels-bound ps rest (valid .1))
+  levels-bound (p ∷ ps) rest valid = (
+    (λ lit.
+        let e = lit-luminance p lit in
+        let bound = level-bound p (valid .0) (storedLuminance p) e in
+        rw e (
+          bound (p .red) (inl refl) K key a average,
+          bound (p .green) (inr (inl refl)) K key a average,
+          bound (p .blue) (inr (inr refl)) K key a average,
+        )),
+    levels-bound ps rest (valid .1),
+  )
 
 -- ---- a strip
 
@@ -114,14 +117,14 @@ map-bound s output e = where-lit s (accepted s e) _ (λ A q. level-half s (accep
 
 -- the promise of mapping
 abbrev Mapped : (s old : List ℕ) → Verdict → (new : List ℕ) → Type 0
-Mapped s old v new = (v ≡ checkOutput s (length old)) × (new ≡ after v (stripLevels s) old) × MapIsBounded s v new
+Mapped s old v new = (v ≡ checkOutput s (length old)) × ((new ≡ after v (stripLevels s) old) × MapIsBounded s v new)
 
 pub left-alone : (s old : List ℕ) {v : Verdict} {r : Refusal} {i : ℕ} → v ≡ checkOutput s (length old) → v ≡ Refused r i
     → Mapped s old v old
-left-alone s old e f = (e, rw f, rw f tt)
+left-alone s old e f = (e, (rw f, rw f tt))
 
 pub filled : (s old new : List ℕ) → Accepted ≡ checkOutput s (length old) → new ≡ onto (stripLevels s) old → Mapped s old Accepted new
-filled s old new e f = (e, f, rw f (map-bound s old (mapped-strip s (length old) (sym e))))
+filled s old new e f = (e, (f, rw f (map-bound s old (mapped-strip s (length old) (sym e)))))
 
 -- ---- both together
 

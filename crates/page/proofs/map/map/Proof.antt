@@ -9,6 +9,7 @@ use Rattle.strip.specs.Checks.{checkStrip, checkOutput}
 use Rattle.strip.specs.Output.{onto}
 use Rattle.strip.proofs.Limits.{Fits, output-limits}
 use Rattle.tone.proofs.Laws.{reported-range}
+use Rattle.page.specs.Tallying.{stripAverage}
 use Rattle.page.proofs.Bounds.{left-alone, filled}
 use Rattle.page.proofs.Strips.{mapped-strip, strip-sum, has-average, average-is, levels-absent, levels-present}
 use Rattle.page.proofs.map.map.Statement.{statement}
@@ -22,11 +23,60 @@ limits : (c : tie.After-enum-told)
     → let a = c .before .before .before .before .before .args in Fits (now (a .strip)) (length (now (a .output)))
 limits c = output-limits _ _ (cc)
 
-strip-tally-requires : tie.Need-strip-tally-requires
-strip-tally-requires c κs = mapped-strip _ (length (now (c .before .before .before .before .before .args .output))) (cc)
+ok : (c : tie.After-enum-told) → checkStrip (now (c .before .before .before .before .before .args .strip)) ≡ Accepted
+ok c = mapped-strip _ (length (now (c .before .before .before .before .before .args .output))) (cc)
 
 average-of-requires : tie.Need-average-of-requires
 average-of-requires c κs = has-average _ (limits (c .before .before) .strip) _ (c .before .strip-tally .ensures)
 
+told : (c : tie.After-average-of)
+    → c .average-of .result ≡ stripAverage (now (c .before .before .before .before .before .before .before .before .args .strip))
+told c =
+    let t = c .before .before in
+    average-is _ (limits (t .before) .strip) _ (t .strip-tally .ensures) (c .average-of .ensures)
+
+clear-levels-requires : tie.Need-clear-levels-requires
+clear-levels-requires c κs =
+    let p = c .before in
+    omega (arith, p .pixel-count .ensures, limits (p .before .before .before .before .before .before .before) .fits)
+
+returns-2 : tie.Need-returns-2
+returns-2 c =
+    let l = c .before .before in
+    let p = l .before .before in
+    let n = p .before .before in
+    let a = n .before .before in
+    let e = a .before .before .before in
+    let args = e .before .before .before .before .before .args in
+    let none = sym (told a) ∙ n .enum-told3 .given .1 in
+    filled _ (now (args .output)) _ (cc)
+    (l .clear-levels .ensures ∙ ap (λ vs. onto vs (now (args .output))) (levels-absent _ (limits e .strip) none (p .pixel-count .ensures)))
+
+strip-levels-requires : tie.Need-strip-levels-requires
+strip-levels-requires c κs =
+    let v = c .before .before in
+    let a = v .before .before in
+    let e = a .before .before .before in
+    let q = limits e in
+    (ok e, reported-range _ _ (strip-sum _ (q .strip)) (sym (told a) ∙ v .average .given .1), q .fits)
+
+returns-3 : tie.Need-returns-3
+returns-3 c =
+    let l = c .before .before in
+    let v = l .before .before .before in
+    let a = v .before .before in
+    let e = a .before .before .before in
+    let args = e .before .before .before .before .before .args in
+    let some = sym (told a) ∙ v .average .given .1 in
+    filled _ (now (args .output)) _ (cc)
+    (l .strip-levels .ensures ∙ ap (λ vs. onto vs (now (args .output))) (levels-present _ (limits e .strip) some))
+
 pub map-spec : {M : Type 1} → statement M
-map-spec = ?
+map-spec =
+    tie.close
+    (tie.spec
+    (λ c κs. search needs) (λ c. search needs) (λ c. search needs) returns (λ c κs. ok c) average-of-requires
+    (λ c. search needs) (λ c. search needs)
+    (λ c. omega (arith, limits (c .before .before .before .before .before .before) .strip .head .long)) (λ c κs. search needs)
+    (λ c. omega (arith, c .pixel-count .ensures, limits (c .before .before .before .before .before .before .before) .fits))
+    clear-levels-requires (λ c. search needs) returns-2 strip-levels-requires (λ c. search needs) returns-3)
