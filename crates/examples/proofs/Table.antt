@@ -1,0 +1,24 @@
+-- The worked examples, computed from the definitions. Assumes nothing.
+use mathlib.Core.Path.{refl}
+use lib.Ieee.{size}
+use Rattle.number.specs.Fractions.{byRange}
+use Rattle.number.specs.Storing.{unit, exponentOf, mantissaOf}
+use Rattle.number.specs.Channels.{channelOf, channelOfCode}
+use Rattle.number.specs.Sources.{channelOfValue, fieldValue, rgbeValue}
+use Rattle.refusal.specs.Verdicts.{require, andThen}
+use Rattle.word.specs.Words.{sizeFits, keyFits}
+use Rattle.word.specs.Fields.{checkSizeWord, checkKeyWord, decodeWord}
+use Rattle.strip.specs.Checks.{checkHead, checkBody, checkWith, checkStrip}
+use Rattle.tone.specs.Pixels.{luminanceOf}
+use Rattle.tone.specs.Tables.{greatest, logTest, logOf, rootTest, rootOf}
+use Rattle.tone.specs.Averages.{storedAverage, averageOf}
+use Rattle.tone.specs.Tallies.{sumOf}
+use Rattle.tone.specs.Levels.{levelOf}
+use Rattle.page.specs.Pages.{luminancesOf, tallyStrip}
+use Rattle.examples.specs.Examples.{TableHolds}
+
+pub table-holds : TableHolds
+unfolding size byRange unit exponentOf mantissaOf channelOf channelOfCode channelOfValue fieldValue rgbeValue
+    require andThen sizeFits keyFits checkSizeWord checkKeyWord decodeWord checkHead checkBody checkWith checkStrip
+    luminanceOf greatest logTest logOf rootTest rootOf storedAverage averageOf sumOf levelOf luminancesOf tallyStrip
+table-holds = refl

@@ -1,0 +1,108 @@
+-- The worked examples of document 01 that are proved, as one table of inputs and answers. Assumes nothing.
+-- "Marked ▲ are the proved ones. Hexadecimal halves and singles; (E,M) decimal."
+use Prim.Native.Nat.{ℕ}
+use mathlib.Core.Path.{_≡_}
+use mathlib.Core.List.{List, [], _∷_, _++_, map}
+use lib.IntN.{ℤ, pos, negℤ}
+use lib.ListN.{length, replicate}
+use Rattle.number.specs.declared.channel.Channel.{Channel}
+use Rattle.number.specs.declared.channel.Channel.the-variants.{Black, Lit}
+use Rattle.number.specs.declared.channel.Decoded.{Decoded}
+use Rattle.number.specs.Sources.{channelOfValue, halfValue, singleValue, rgbeValue}
+use Rattle.refusal.specs.declared.Refusal.{Refusal}
+use Rattle.refusal.specs.Refusals.{outcomeOf}
+use Rattle.word.specs.Placing.{channelIn}
+use Rattle.word.specs.Words.{stripOf}
+use Rattle.tone.specs.declared.average.Average.{Average}
+use Rattle.tone.specs.declared.average.Average.the-variants.{Present}
+use Rattle.tone.specs.Tables.{logOf, rootOf}
+use Rattle.page.specs.declared.tally.TallyOrRefusal.{TallyOrRefusal}
+use Rattle.page.specs.Pages.{tallyStrip}
+use Rattle.page.specs.Mapping.{stripLevels}
+
+-- a number of a source; the entry T[M], and X[f]; a page of one row of grey pixels, each given as a half
+pub data Input : Type 0 where
+  half : (bits : ℕ) → Input
+  rgbe : (m e : ℕ) → Input
+  single : (bits : ℕ) → Input
+  log : (M : ℕ) → Input
+  root : (f : ℕ) → Input
+  greys : (key : ℕ) (halves : List ℕ) → Input
+
+-- a channel, or the number of a refusal; an entry; a page's A with the stored average, and its level bytes
+pub data Answer : Type 0 where
+  black : Answer
+  lit : (E M : ℕ) → Answer
+  refused : (number : ℕ) → Answer
+  entry : (n : ℕ) → Answer
+  mapped : Average → (levels : List ℕ) → Answer
+
+-- ---- what the definitions answer
+
+-- the number is the same at every index
+abbrev pub refusedBy : Refusal → Answer
+refusedBy r = refused (outcomeOf r 0 .number)
+
+abbrev pub channelAnswer : Decoded → Answer
+channelAnswer (Decoded.Holds Black) = black
+channelAnswer (Decoded.Holds (Lit E M)) = lit E M
+channelAnswer (Decoded.Refuses r) = refusedBy r
+
+abbrev pub pageAnswer : TallyOrRefusal → (levels : List ℕ) → Answer
+pageAnswer (TallyOrRefusal.Holds t a) levels = mapped a levels
+pageAnswer (TallyOrRefusal.Refuses r i) levels = refusedBy r
+
+abbrev pub greyChannels : (halves : List ℕ) → List Channel
+greyChannels [] = []
+greyChannels (b ∷ bs) = replicate 3 (channelIn (channelOfValue (halfValue b))) ++ greyChannels bs
+
+abbrev pub greyStrip : (key : ℕ) (halves : List ℕ) → List ℕ
+greyStrip K bs = stripOf (record { width = length bs; height = 1; key = K }) (greyChannels bs)
+
+abbrev pub answerOf : Input → Answer
+answerOf (half b) = channelAnswer (channelOfValue (halfValue b))
+answerOf (rgbe m e) = channelAnswer (channelOfValue (rgbeValue m e))
+answerOf (single b) = channelAnswer (channelOfValue (singleValue b))
+answerOf (log M) = entry (logOf M)
+answerOf (root f) = entry (rootOf f)
+answerOf (greys K bs) = pageAnswer (tallyStrip (greyStrip K bs)) (stripLevels (greyStrip K bs))
+
+-- ---- what document 01 answers
+
+pub record Example : Type 0 where
+  pub input : Input
+  pub answer : Answer
+
+infix 70 _gives_
+abbrev pub _gives_ : Input → Answer → Example
+i gives a = record { input = i; answer = a }
+
+abbrev pub average : (A : ℤ) (E M : ℕ) → Average
+average A E M = Present A (record { exponent = E; mantissa = M })
+
+abbrev pub table : List Example
+table =
+    -- "▲ half 3C00 → (128,255); ▲ 3C01 → (129,128); ▲ 0001 → (104,255)", "▲ 7BFF → (144,255)", "▲ FC00 refused 5"
+    half 0x3C00 gives lit 128 255 ∷
+    half 0x3C01 gives lit 129 128 ∷
+    half 0x0001 gives lit 104 255 ∷
+    half 0x7BFF gives lit 144 255 ∷
+    half 0xFC00 gives refused 5 ∷
+    -- "▲ byte 255, e 71 black; ▲ 127, e 185 → (184,255)"
+    rgbe 255 71 gives black ∷
+    rgbe 127 185 gives lit 184 255 ∷
+    -- "▲ single 23000000 black", "▲ 5B800001 refused 6"
+    single 0x23000000 gives black ∷
+    single 0x5B800001 gives refused 6 ∷
+    -- "▲ T[128] = 1793, T[192] = 1942, T[255] = 2047; ▲ X[128] = 181"
+    log 128 gives entry 1793 ∷
+    log 192 gives entry 1942 ∷
+    log 255 gives entry 2047 ∷
+    root 128 gives entry 181 ∷
+    -- "▲ Greys 1.0 and 0.5: A = −129, average (128,180), levels 52 and 29.", under the "K 180" of the line above it
+    greys 180 (0x3C00 ∷ 0x3800 ∷ []) gives mapped (average (negℤ (pos 129)) 128 180) (52 ∷ 52 ∷ 52 ∷ 29 ∷ 29 ∷ 29 ∷ []) ∷
+    []
+
+-- The table is as the definitions have it. Proved as `table-holds` in proofs/Table.antt.
+abbrev pub TableHolds : Type 0
+TableHolds = map (λ (x : Example). answerOf (x .input)) table ≡ map (λ (x : Example). x .answer) table

@@ -1,0 +1,1 @@
+// The worked examples of document 01: definitions and a proof, no code.
