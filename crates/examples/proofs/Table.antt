@@ -14,7 +14,7 @@ use Rattle.tone.specs.Tables.{greatest, logTest, logOf, rootTest, rootOf}
 use Rattle.tone.specs.Averages.{storedAverage, averageOf}
 use Rattle.tone.specs.Tallies.{sumOf}
 use Rattle.tone.specs.Levels.{levelOf}
-use Rattle.page.specs.Pages.{luminancesOf, tallyStrip}
+use Rattle.page.specs.Tallying.{luminancesOf, tallyStrip}
 use Rattle.examples.specs.Examples.{TableHolds}
 
 pub table-holds : TableHolds

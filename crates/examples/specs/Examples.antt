@@ -17,7 +17,7 @@ use Rattle.tone.specs.declared.average.Average.{Average}
 use Rattle.tone.specs.declared.average.Average.the-variants.{Present}
 use Rattle.tone.specs.Tables.{logOf, rootOf}
 use Rattle.page.specs.declared.tally.TallyOrRefusal.{TallyOrRefusal}
-use Rattle.page.specs.Pages.{tallyStrip}
+use Rattle.page.specs.Tallying.{tallyStrip}
 use Rattle.page.specs.Mapping.{stripLevels}
 
 -- a number of a source; the entry T[M], and X[f]; a page of one row of grey pixels, each given as a half
@@ -29,13 +29,13 @@ pub data Input : Type 0 where
   root : (f : ℕ) → Input
   greys : (key : ℕ) (halves : List ℕ) → Input
 
--- a channel, or the number of a refusal; an entry; a page's A with the stored average, and its level bytes
+-- a channel, or the number of a refusal; an entry; a page's strip, its A with the stored average, and its level bytes
 pub data Answer : Type 0 where
   black : Answer
   lit : (E M : ℕ) → Answer
   refused : (number : ℕ) → Answer
   entry : (n : ℕ) → Answer
-  mapped : Average → (levels : List ℕ) → Answer
+  mapped : (strip : List ℕ) → Average → (levels : List ℕ) → Answer
 
 -- ---- what the definitions answer
 
@@ -48,9 +48,9 @@ channelAnswer (Decoded.Holds Black) = black
 channelAnswer (Decoded.Holds (Lit E M)) = lit E M
 channelAnswer (Decoded.Refuses r) = refusedBy r
 
-abbrev pub pageAnswer : TallyOrRefusal → (levels : List ℕ) → Answer
-pageAnswer (TallyOrRefusal.Holds t a) levels = mapped a levels
-pageAnswer (TallyOrRefusal.Refuses r i) levels = refusedBy r
+abbrev pub pageAnswer : (strip : List ℕ) → TallyOrRefusal → Answer
+pageAnswer s (TallyOrRefusal.Holds t a) = mapped s a (stripLevels s)
+pageAnswer s (TallyOrRefusal.Refuses r i) = refusedBy r
 
 abbrev pub greyChannels : (halves : List ℕ) → List Channel
 greyChannels [] = []
@@ -65,7 +65,7 @@ answerOf (rgbe m e) = channelAnswer (channelOfValue (rgbeValue m e))
 answerOf (single b) = channelAnswer (channelOfValue (singleValue b))
 answerOf (log M) = entry (logOf M)
 answerOf (root f) = entry (rootOf f)
-answerOf (greys K bs) = pageAnswer (tallyStrip (greyStrip K bs)) (stripLevels (greyStrip K bs))
+answerOf (greys K bs) = let s = greyStrip K bs in pageAnswer s (tallyStrip s)
 
 -- ---- what document 01 answers
 
@@ -79,6 +79,10 @@ i gives a = record { input = i; answer = a }
 
 abbrev pub average : (A : ℤ) (E M : ℕ) → Average
 average A E M = Present A (record { exponent = E; mantissa = M })
+
+abbrev pub greyWords : List ℕ
+greyWords =
+    0x10008001 ∷ 0x200000B4 ∷ 0x400080FF ∷ 0x500080FF ∷ 0x600080FF ∷ 0x40007FFF ∷ 0x50007FFF ∷ 0x60007FFF ∷ 0x70000002 ∷ []
 
 abbrev pub table : List Example
 table =
@@ -99,8 +103,9 @@ table =
     log 192 gives entry 1942 ∷
     log 255 gives entry 2047 ∷
     root 128 gives entry 181 ∷
-    -- "▲ Greys 1.0 and 0.5: A = −129, average (128,180), levels 52 and 29.", under the "K 180" of the line above it
-    greys 180 (0x3C00 ∷ 0x3800 ∷ []) gives mapped (average (negℤ (pos 129)) 128 180) (52 ∷ 52 ∷ 52 ∷ 29 ∷ 29 ∷ 29 ∷ []) ∷
+    -- "▲ Greys 1.0 and 0.5: A = −129, average (128,180), levels 52 and 29.", under the "K 180" of the line above it; their strip is the
+    -- picture program's input: "10008001 200000B4 400080FF 500080FF 600080FF 40007FFF 50007FFF 60007FFF 70000002"
+    greys 180 (0x3C00 ∷ 0x3800 ∷ []) gives mapped greyWords (average (negℤ (pos 129)) 128 180) (52 ∷ 52 ∷ 52 ∷ 29 ∷ 29 ∷ 29 ∷ []) ∷
     []
 
 -- The table is as the definitions have it. Proved as `table-holds` in proofs/Table.antt.

@@ -2,4 +2,3 @@ pub mod Limits
 pub mod Bodies
 pub mod Outputs
 pub mod RoundTrip
-mod Example
