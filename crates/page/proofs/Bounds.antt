@@ -72,7 +72,7 @@ module _ (s : List ℕ) (ok : Whole s) where
   where-lit Half half = by (stripAverage s) refl
     where
       by : (a : Average) → stripAverage s ≡ a → WhereLit s a Half
-      by Absent e = sym (lit-count (stripPixels s)) ∙ absent _ _ e
+      by Absent e = let n = absent _ _ e in let count = lit-count (stripPixels s) in omega arith
       by (Present A average) e = half A (e ∙ rw (reported _ _ e .stored))
 
   pub mean-half : {A : ℤ} {average : Stored} → stripAverage s ≡ Present A average → MeanHalf s A

@@ -3,6 +3,7 @@
 use Prim.Native.Nat.{ℕ, _*_}
 use mathlib.Core.List.{List, [], _∷_, map}
 use lib.ListN.{length, replicate}
+use Rattle.number.specs.declared.channel.Channel.{Channel}
 use Rattle.number.specs.declared.channel.Pixel.{Pixel}
 use Rattle.number.specs.declared.ratio.Stored.{Stored}
 use Rattle.strip.specs.Checks.{headerFields}
@@ -16,14 +17,14 @@ use Rattle.tone.specs.Pixels.{luminanceOf}
 use Rattle.page.specs.declared.body_levels.Levels.{Levels}
 use Rattle.page.specs.Tallying.{stripAverage}
 
--- steps 4 to 6 for the channels of a pixel; those of an unlit one are black, and "Black gives 0"
+-- a level for each channel of a pixel
+abbrev pub byChannel : (Channel → ℕ) → Pixel → Levels
+byChannel level p = record { red = level (p .red); green = level (p .green); blue = level (p .blue) }
+
+-- steps 4 to 6; the channels of an unlit pixel are black, and "Black gives 0"
 abbrev pub levelsUnder : Luminance → (K : ℕ) (average : Stored) → Pixel → Levels
-levelsUnder Unlit K a p = record { red = 0; green = 0; blue = 0 }
-levelsUnder (Lit y) K a p = record {
-  red = mappedLevel reinhard K a y (p .red);
-  green = mappedLevel reinhard K a y (p .green);
-  blue = mappedLevel reinhard K a y (p .blue);
-}
+levelsUnder Unlit K a p = byChannel (λ c. 0) p
+levelsUnder (Lit y) K a p = byChannel (mappedLevel reinhard K a y) p
 
 abbrev pub levelsOf : (K : ℕ) (average : Stored) → Pixel → Levels
 levelsOf K a p = levelsUnder (luminanceOf p) K a p
