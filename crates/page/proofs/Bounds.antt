@@ -1,7 +1,6 @@
--- Demand 3 of a page. Assumes nothing.
-use Prim.Native.Nat.{ℕ, zero, suc, _<_}
+-- Demand 3 of a page, and the promises of the two calls. Assumes nothing.
+use Prim.Native.Nat.{ℕ, _<_}
 use mathlib.Core.Path.{_≡_, refl, sym, subst, _∙_}
-use mathlib.Core.Bool.{true}
 use mathlib.Core.List.{List, [], _∷_, _++_, map}
 use mathlib.Core.Logic.{inl, inr}
 use native.Mathlib.Omega.{arith}
@@ -13,35 +12,24 @@ use Rattle.number.proofs.Laws.{Every}
 use Rattle.refusal.specs.declared.Refusal.{Refusal}
 use Rattle.refusal.specs.declared.Verdict.{Verdict}
 use Rattle.refusal.specs.declared.Verdict.the-variants.{Accepted, Refused}
-use Rattle.strip.specs.Checks.{headerFields, checkStrip, checkOutput}
+use Rattle.strip.specs.Checks.{checkStrip, checkOutput}
 use Rattle.strip.specs.Output.{onto, after}
 use Rattle.strip.specs.Reading.{stripPixels}
 use Rattle.strip.proofs.Limits.{Whole}
 use Rattle.tone.specs.declared.average.Average.{Average}
 use Rattle.tone.specs.declared.average.Average.the-variants.{Absent, Present}
 use Rattle.tone.specs.declared.tally.Tally.{Tally}
-use Rattle.tone.specs.Averages.{storedAverage, averageOf}
+use Rattle.tone.specs.Averages.{storedAverage}
 use Rattle.tone.specs.Claims.{LevelBound}
 use Rattle.tone.specs.Levels.{IsKey, IsStoredAverage, reinhard}
 use Rattle.tone.specs.Pixels.{IsPixel}
-use Rattle.tone.specs.Tallies.{sumOf, tallyOf}
+use Rattle.tone.specs.Tallies.{tallyOf}
 use Rattle.tone.proofs.Laws.{reported, absent, reported-range, mean-bound, level-bound}
 use Rattle.page.specs.declared.tally.TallyOrRefusal.{TallyOrRefusal}
 use Rattle.page.specs.declared.tally.TallyOrRefusal.the-variants.{Holds, Refuses}
 use Rattle.page.specs.Tallying.{stripLuminances, stripAverage, tallyUnder, tallyStrip}
-use Rattle.page.specs.Mapping.{levelsOf, levelBytes, pageLevels, stripLevels}
-use Rattle.page.specs.Claims.{
-  isLit,
-  litCount,
-  MeanHalf,
-  EachLevel,
-  LevelHalf,
-  WhereLit,
-  TallyIsBounded,
-  MapIsBounded,
-  Bounded,
-  DemandThree,
-}
+use Rattle.page.specs.Mapping.{levelsOf, levelBytes, stripLevels}
+use Rattle.page.specs.Claims.{litCount, MeanHalf, EachLevel, LevelHalf, WhereLit, TallyIsBounded, MapIsBounded, Bounded, DemandThree}
 use Rattle.page.proofs.Luminances.{storedLuminance, lit-luminance, lit-count, every-luminance}
 use Rattle.page.proofs.Strips.{accepted, mapped-strip, strip-key, strip-valid, strip-sum}
 

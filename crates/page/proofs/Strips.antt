@@ -1,5 +1,5 @@
 -- What the tally and the levels of an accepted strip rest on. Assumes nothing.
-use Prim.Native.Nat.{ℕ, _+_, _-_, _*_, _^_, _≤_}
+use Prim.Native.Nat.{ℕ, _+_, _-_, _*_, _≤_}
 use mathlib.Core.Path.{_≡_, _∙_}
 use mathlib.Core.List.{List, map}
 use native.Mathlib.Nat.{add-sub-cancel-left}
@@ -16,7 +16,7 @@ use Rattle.word.specs.Words.{pixels}
 use Rattle.word.specs.Fields.{widthIn, heightIn}
 use Rattle.word.proofs.Limits.{size-limits, key-limits}
 use Rattle.word.proofs.Pixels.{length-pixels}
-use Rattle.strip.specs.Checks.{wordAt, headerFields, channelCount, bodyPart, checkStrip, checkOutput}
+use Rattle.strip.specs.Checks.{wordAt, headerFields, bodyPart, checkStrip, checkOutput}
 use Rattle.strip.specs.Reading.{stripChannels, stripPixels}
 use Rattle.strip.proofs.Limits.{Whole, whole, strip-accepted}
 use Rattle.strip.proofs.Bodies.{pixels-in}

@@ -116,7 +116,8 @@ module _ (f : Pixel → Levels) (ws : List ℕ) (p : ℕ) (t : List ℕ) {n : �
   unfolding filling
   filling-next inside e =
       let k : 3 * (p + 1) ≡ 3 * p + 3 = omega arith in
-      (simp length-set (inv .0), rw (k, e) (sym (three t (3 * p) _ (map f (drop (p + 1) (wordPixels ws)))) ∙ (rw (one-less ws p inside) at (inv .1))))
+      let stores = three t (3 * p) (f (pixelAt ws p)) (map f (drop (p + 1) (wordPixels ws))) in
+      (simp length-set (inv .0), rw (k, e) (sym stores ∙ (rw (one-less ws p inside) at (inv .1))))
 
   pub filling-done : length ws / 3 ≤ p → t ≡ u
   unfolding filling

@@ -25,7 +25,9 @@ abbrev μ-loop : tie.MeasureT-loop
 loop-holds : tie.Need-loop-holds Inv-loop μ-loop
 loop-holds c =
     let s = c .before .before in
-    (refl, filling-all _ _ _ ∙ sets-front (levelBytes (map (levelsOf (s .args .key) (s .args .average)) (wordPixels (s .args .words .now)))) _ (levels-fit _ (s .args .words .now) (s .pre .2)))
+    let f = levelsOf (s .args .key) (s .args .average) in
+    let ws = s .args .words .now in
+    (refl, filling-all f ws _ ∙ sets-front (levelBytes (map f (wordPixels ws))) _ (levels-fit f ws (s .pre .2)))
 
 loop-again : tie.Need-loop-again Inv-loop μ-loop
 loop-again c =

@@ -1,6 +1,5 @@
 -- `page::body_levels::strip_levels` meets its contract. Assumes nothing.
 use borrow.Author.Needs.{needs}
-use mathlib.Core.Path.{sym, ap, _∙_}
 use native.Mathlib.Omega.{arith}
 use denote.Ref.{now}
 use Rattle.strip.proofs.Limits.{Whole}
@@ -15,8 +14,11 @@ fill-levels-requires : tie.Need-fill-levels-requires
 fill-levels-requires c κs =
     let h = c .before .before in
     let p = h .before .before in
-    let pre = p .before .before .before .before .pre in
-    (rw (h .low-half .ensures) (strip-key _ (strip p)), pre .1, omega (arith, c .before .fill-levels-arg .given, p .pixel-count .ensures, pre .2))
+    let pre = p .before .before .before .before .pre in (
+      rw (h .low-half .ensures) (strip-key _ (strip p)),
+      pre .1,
+      omega (arith, c .before .fill-levels-arg .given, p .pixel-count .ensures, pre .2),
+    )
 
 returns : tie.Need-returns
 returns c =

@@ -1,11 +1,8 @@
 -- `page::body_tally::strip_tally` meets its contract. Assumes nothing.
 use borrow.Author.Needs.{needs}
-use mathlib.Core.Path.{sym, ap, _∙_}
 use native.Mathlib.Omega.{arith}
 use denote.Ref.{now}
 use Rattle.strip.proofs.Limits.{Whole}
-use Rattle.tone.specs.Tallies.{tallyOf}
-use Rattle.page.specs.Tallying.{wordPixels, luminancesOf}
 use Rattle.page.proofs.Strips.{accepted, body-lent, strip-pixels, few-pixels}
 use Rattle.page.proofs.body_tally.strip_tally.Statement.{statement}
 use Rattle.page.proofs.body_tally.strip_tally.Tie as tie

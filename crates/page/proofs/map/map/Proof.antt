@@ -5,7 +5,7 @@ use native.Mathlib.Omega.{arith}
 use lib.ListN.{length}
 use denote.Ref.{now}
 use Rattle.refusal.specs.declared.Verdict.the-variants.{Accepted}
-use Rattle.strip.specs.Checks.{checkStrip, checkOutput}
+use Rattle.strip.specs.Checks.{checkStrip}
 use Rattle.strip.specs.Output.{onto}
 use Rattle.strip.proofs.Limits.{Fits, output-limits}
 use Rattle.tone.proofs.Laws.{reported-range}
