@@ -8,7 +8,7 @@ use Rattle.number.specs.Sources.{channelOfValue, fieldValue, rgbeValue}
 use Rattle.refusal.specs.Verdicts.{require, andThen}
 use Rattle.word.specs.Words.{sizeFits, keyFits}
 use Rattle.word.specs.Fields.{checkSizeWord, checkKeyWord, decodeWord}
-use Rattle.strip.specs.Checks.{checkHead, checkBody, checkWith, checkStrip}
+use Rattle.strip.specs.Checks.{checkHead, checkBody, checkWith, checkStrip, checkOutput}
 use Rattle.tone.specs.Pixels.{luminanceOf}
 use Rattle.tone.specs.Tables.{greatest, logTest, logOf, rootTest, rootOf}
 use Rattle.tone.specs.Averages.{storedAverage, averageOf}
@@ -19,6 +19,6 @@ use Rattle.examples.specs.Examples.{TableHolds}
 
 pub table-holds : TableHolds
 unfolding size byRange unit exponentOf mantissaOf channelOf channelOfCode channelOfValue fieldValue rgbeValue
-    require andThen sizeFits keyFits checkSizeWord checkKeyWord decodeWord checkHead checkBody checkWith checkStrip
+    require andThen sizeFits keyFits checkSizeWord checkKeyWord decodeWord checkHead checkBody checkWith checkStrip checkOutput
     luminanceOf greatest logTest logOf rootTest rootOf storedAverage averageOf sumOf levelOf luminancesOf tallyStrip
 table-holds = refl

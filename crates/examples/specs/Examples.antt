@@ -2,17 +2,18 @@
 -- "Marked ▲ are the proved ones. Hexadecimal halves and singles; (E,M) decimal."
 use Prim.Native.Nat.{ℕ}
 use mathlib.Core.Path.{_≡_}
-use mathlib.Core.List.{List, [], _∷_, _++_, map}
+use mathlib.Core.List.{List, [], _∷_, map}
 use lib.IntN.{ℤ, pos, negℤ}
 use lib.ListN.{length, replicate}
-use Rattle.number.specs.declared.channel.Channel.{Channel}
 use Rattle.number.specs.declared.channel.Channel.the-variants.{Black, Lit}
 use Rattle.number.specs.declared.channel.Decoded.{Decoded}
 use Rattle.number.specs.Sources.{channelOfValue, halfValue, singleValue, rgbeValue}
 use Rattle.refusal.specs.declared.Refusal.{Refusal}
 use Rattle.refusal.specs.Refusals.{outcomeOf}
-use Rattle.word.specs.Placing.{channelIn}
-use Rattle.word.specs.Words.{stripOf}
+use Rattle.strip.specs.Checks.{channelCount, checkOutput}
+use Rattle.strip.specs.Output.{after}
+use Rattle.convert.specs.Formats.{Format}
+use Rattle.convert.specs.Converting.{converted}
 use Rattle.tone.specs.declared.average.Average.{Average}
 use Rattle.tone.specs.declared.average.Average.the-variants.{Present}
 use Rattle.tone.specs.Tables.{logOf, rootOf}
@@ -48,16 +49,21 @@ channelAnswer (Decoded.Holds Black) = black
 channelAnswer (Decoded.Holds (Lit E M)) = lit E M
 channelAnswer (Decoded.Refuses r) = refusedBy r
 
+-- what mapping leaves in an output of zeros that is just long enough
+abbrev pub levelsLeft : (strip : List ℕ) → List ℕ
+levelsLeft s = let n = channelCount s in after (checkOutput s n) (stripLevels s) (replicate n 0)
+
 abbrev pub pageAnswer : (strip : List ℕ) → TallyOrRefusal → Answer
-pageAnswer s (TallyOrRefusal.Holds t a) = mapped s a (stripLevels s)
+pageAnswer s (TallyOrRefusal.Holds t a) = mapped s a (levelsLeft s)
 pageAnswer s (TallyOrRefusal.Refuses r i) = refusedBy r
 
-abbrev pub greyChannels : (halves : List ℕ) → List Channel
-greyChannels [] = []
-greyChannels (b ∷ bs) = replicate 3 (channelIn (channelOfValue (halfValue b))) ++ greyChannels bs
+-- each half three times
+abbrev pub greySource : (halves : List ℕ) → List ℕ
+greySource [] = []
+greySource (b ∷ bs) = b ∷ b ∷ b ∷ greySource bs
 
 abbrev pub greyStrip : (key : ℕ) (halves : List ℕ) → List ℕ
-greyStrip K bs = stripOf (record { width = length bs; height = 1; key = K }) (greyChannels bs)
+greyStrip K bs = converted Format.half (record { width = length bs; height = 1; key = K }) (greySource bs)
 
 abbrev pub answerOf : Input → Answer
 answerOf (half b) = channelAnswer (channelOfValue (halfValue b))
@@ -103,8 +109,8 @@ table =
     log 192 gives entry 1942 ∷
     log 255 gives entry 2047 ∷
     root 128 gives entry 181 ∷
-    -- "▲ Greys 1.0 and 0.5: A = −129, average (128,180), levels 52 and 29.", under the "K 180" of the line above it; their strip is the
-    -- picture program's input: "10008001 200000B4 400080FF 500080FF 600080FF 40007FFF 50007FFF 60007FFF 70000002"
+    -- "▲ Greys 1.0 and 0.5: A = −129, average (128,180), levels 52 and 29.", under the "K 180" of document 01's line before it; their
+    -- strip is the picture program's input: "10008001 200000B4 400080FF 500080FF 600080FF 40007FFF 50007FFF 60007FFF 70000002"
     greys 180 (0x3C00 ∷ 0x3800 ∷ []) gives mapped greyWords (average (negℤ (pos 129)) 128 180) (52 ∷ 52 ∷ 52 ∷ 29 ∷ 29 ∷ 29 ∷ []) ∷
     []
 

@@ -1,4 +1,5 @@
 pub mod Laws
+pub mod Lists
 pub mod Normalised
 pub mod Scaling
 pub mod Ranges

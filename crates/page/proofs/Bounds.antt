@@ -12,7 +12,7 @@ use Rattle.number.proofs.Laws.{Every}
 use Rattle.refusal.specs.declared.Refusal.{Refusal}
 use Rattle.refusal.specs.declared.Verdict.{Verdict}
 use Rattle.refusal.specs.declared.Verdict.the-variants.{Accepted, Refused}
-use Rattle.strip.specs.Checks.{checkStrip, checkOutput}
+use Rattle.strip.specs.Checks.{headerFields, checkStrip, checkOutput}
 use Rattle.strip.specs.Output.{onto, after}
 use Rattle.strip.specs.Reading.{stripPixels}
 use Rattle.strip.proofs.Limits.{Whole}
@@ -20,8 +20,7 @@ use Rattle.tone.specs.declared.average.Average.{Average}
 use Rattle.tone.specs.declared.average.Average.the-variants.{Absent, Present}
 use Rattle.tone.specs.declared.tally.Tally.{Tally}
 use Rattle.tone.specs.Averages.{storedAverage}
-use Rattle.tone.specs.Claims.{LevelBound}
-use Rattle.tone.specs.Levels.{IsKey, IsStoredAverage, reinhard}
+use Rattle.tone.specs.Levels.{IsKey, IsStoredAverage}
 use Rattle.tone.specs.Pixels.{IsPixel}
 use Rattle.tone.specs.Tallies.{tallyOf}
 use Rattle.tone.proofs.Laws.{reported, absent, reported-range, mean-bound, level-bound}
@@ -29,15 +28,15 @@ use Rattle.page.specs.declared.tally.TallyOrRefusal.{TallyOrRefusal}
 use Rattle.page.specs.declared.tally.TallyOrRefusal.the-variants.{Holds, Refuses}
 use Rattle.page.specs.Tallying.{stripLuminances, stripAverage, tallyUnder, tallyStrip}
 use Rattle.page.specs.Mapping.{levelsOf, levelBytes, stripLevels}
-use Rattle.page.specs.Claims.{litCount, MeanHalf, EachLevel, LevelHalf, WhereLit, TallyIsBounded, MapIsBounded, Bounded, DemandThree}
+use Rattle.page.specs.Claims.{litCount, MeanHalf, EachThree, LitBound, LevelHalf, WhereLit, TallyPromise, MapPromise, BoundsReported, DemandThree}
 use Rattle.page.proofs.Luminances.{storedLuminance, lit-luminance, lit-count, every-luminance}
 use Rattle.page.proofs.Strips.{accepted, mapped-strip, strip-key, strip-valid, strip-sum}
 
 -- ---- the levels of a list of pixels, with anything behind them
 
 module _ (K : ℕ) (key : IsKey K) (a : Stored) (average : IsStoredAverage a) where
-  pub levels-bound : (ps : List Pixel) (rest : List ℕ) → Every IsPixel ps
-      → EachLevel (LevelBound reinhard K a) ps (levelBytes (map (levelsOf K a) ps) ++ rest)
+  levels-bound : (ps : List Pixel) (rest : List ℕ) → Every IsPixel ps
+      → EachThree (LitBound K a) ps (levelBytes (map (levelsOf K a) ps) ++ rest)
   levels-bound [] rest valid = tt
   levels-bound (p ∷ ps) rest valid = (
     (λ lit.
@@ -55,22 +54,23 @@ module _ (K : ℕ) (key : IsKey K) (a : Stored) (average : IsStoredAverage a) wh
 
 module _ (s : List ℕ) (ok : Whole s) where
   -- where an average is absent, no pixel is lit
-  pub where-lit : (Half : ℤ → Type 0) → ((A : ℤ) → stripAverage s ≡ Present A (storedAverage A) → Half A)
-      → WhereLit s (stripAverage s) Half
+  where-lit : (Half : ℤ → Type 0) → ((A : ℤ) → stripAverage s ≡ Present A (storedAverage A) → Half A)
+      → WhereLit (stripPixels s) (stripAverage s) Half
   where-lit Half half = by (stripAverage s) refl
     where
-      by : (a : Average) → stripAverage s ≡ a → WhereLit s a Half
+      by : (a : Average) → stripAverage s ≡ a → WhereLit (stripPixels s) a Half
       by Absent e = let n = absent _ _ e in let count = lit-count (stripPixels s) in omega arith
       by (Present A average) e = half A (e ∙ rw (reported _ _ e .stored))
 
-  pub mean-half : {A : ℤ} {average : Stored} → stripAverage s ≡ Present A average → MeanHalf s A
+  mean-half : {A : ℤ} {average : Stored} → stripAverage s ≡ Present A average → MeanHalf (stripPixels s) A
   mean-half {A} {average} e =
       record {
         count = lit-count (stripPixels s);
         mean = mean-bound (stripLuminances s) (every-luminance (stripPixels s) (strip-valid s ok)) A average e;
       }
 
-  pub level-half : {A : ℤ} (output : List ℕ) → stripAverage s ≡ Present A (storedAverage A) → LevelHalf s A (onto (stripLevels s) output)
+  level-half : {A : ℤ} (output : List ℕ) → stripAverage s ≡ Present A (storedAverage A)
+      → LevelHalf (headerFields s .key) (stripPixels s) A (onto (stripLevels s) output)
   level-half output e =
       record {
         each = rw e (levels-bound _ (strip-key s ok) _ (reported-range _ _ (strip-sum s ok) e) (stripPixels s) _ (strip-valid s ok));
@@ -89,23 +89,24 @@ module _ (s : List ℕ) where
   unfolding tallyStrip
   refused e = rw e
 
-pub tally-bound : (s : List ℕ) → TallyIsBounded s (tallyStrip s)
+tally-bound : (s : List ℕ) → TallyPromise s (tallyStrip s)
 unfolding tallyStrip
 tally-bound s = by (checkStrip s) refl
   where
-    by : (v : Verdict) → checkStrip s ≡ v → TallyIsBounded s (tallyUnder v (tallyOf (stripLuminances s)))
-    by Accepted e = where-lit s (accepted s e) (MeanHalf s) (λ A q. mean-half s (accepted s e) q)
+    by : (v : Verdict) → checkStrip s ≡ v → TallyPromise s (tallyUnder v (tallyOf (stripLuminances s)))
+    by Accepted e =
+        (lit-count (stripPixels s), where-lit s (accepted s e) (MeanHalf (stripPixels s)) (λ A q. mean-half s (accepted s e) q))
     by (Refused r i) e = tt
 
-pub bounded : (s : List ℕ) {r : TallyOrRefusal} → r ≡ tallyStrip s → (r ≡ tallyStrip s) × TallyIsBounded s r
-bounded s e = (e, subst (TallyIsBounded s) (sym e) (tally-bound s))
+pub bounded : (s : List ℕ) {r : TallyOrRefusal} → r ≡ tallyStrip s → (r ≡ tallyStrip s) × TallyPromise s r
+bounded s e = (e, subst (TallyPromise s) (sym e) (tally-bound s))
 
-pub map-bound : (s output : List ℕ) → checkStrip s ≡ Accepted → MapIsBounded s Accepted (onto (stripLevels s) output)
+map-bound : (s output : List ℕ) → checkStrip s ≡ Accepted → MapPromise s Accepted (onto (stripLevels s) output)
 map-bound s output e = where-lit s (accepted s e) _ (λ A q. level-half s (accepted s e) output q)
 
 -- the promise of mapping
 abbrev Mapped : (s old : List ℕ) → Verdict → (new : List ℕ) → Type 0
-Mapped s old v new = (v ≡ checkOutput s (length old)) × ((new ≡ after v (stripLevels s) old) × MapIsBounded s v new)
+Mapped s old v new = (v ≡ checkOutput s (length old)) × ((new ≡ after v (stripLevels s) old) × MapPromise s v new)
 
 pub left-alone : (s old : List ℕ) {v : Verdict} {r : Refusal} {i : ℕ} → v ≡ checkOutput s (length old) → v ≡ Refused r i
     → Mapped s old v old
@@ -117,14 +118,14 @@ filled s old new e f = (e, (f, rw f (map-bound s old (mapped-strip s (length old
 -- ---- both together
 
 module _ (s bytes : List ℕ) (ok : checkStrip s ≡ Accepted) (lit : 0 < litCount (stripPixels s)) where
-  joined : (a : Average) → stripAverage s ≡ a → TallyIsBounded s (Holds (tallyOf (stripLuminances s)) a)
-      → WhereLit s a (λ A. LevelHalf s A bytes) → Bounded s bytes
-  joined Absent e mean levels = absurd (omega (arith, lit, mean))
+  joined : (a : Average) → stripAverage s ≡ a → TallyPromise s (Holds (tallyOf (stripLuminances s)) a)
+      → WhereLit (stripPixels s) a (λ A. LevelHalf (headerFields s .key) (stripPixels s) A bytes) → BoundsReported s bytes
+  joined Absent e mean levels = absurd (omega (arith, lit, mean .1))
   joined (Present A average) e mean levels =
       record {
         A = A;
         reported = sym (answered s ok refl (rw (reported _ _ e .stored) (sym e)));
-        bounds = record { mean = mean; levels = levels };
+        bounds = record { mean = mean .1; levels = levels };
       }
 
 pub demand-three : DemandThree

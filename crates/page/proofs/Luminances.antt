@@ -1,10 +1,10 @@
 -- The luminances of a page's lit pixels. Assumes nothing.
-use Prim.Native.Nat.{ℕ, zero, suc, _+_, _≤_}
-use mathlib.Core.Path.{_≡_, refl, _∙_}
-use mathlib.Core.Bool.{Bool, true, false, cond, not, _&&_, _||_}
+use Prim.Native.Nat.{ℕ, suc, _+_, _≤_}
+use mathlib.Core.Path.{_≡_, refl}
+use mathlib.Core.Bool.{Bool, true, false, cond}
 use mathlib.Core.List.{List, [], _∷_, _++_, append-nil}
 use native.Mathlib.Omega.{arith}
-use lib.ListN.{length, take}
+use lib.ListN.{length}
 use Rattle.number.specs.declared.channel.Channel.the-variants.{Lit}
 use Rattle.number.specs.declared.channel.Pixel.{Pixel}
 use Rattle.number.specs.declared.ratio.Stored.{Stored}
@@ -13,11 +13,12 @@ use Rattle.word.specs.Pixels.{pixelOf, wordChannel}
 use Rattle.word.proofs.Pixels.{word-valid}
 use Rattle.tone.specs.declared.luminance.Luminance.{Luminance}
 use Rattle.tone.specs.declared.luminance.Luminance.the-variants.{Unlit}
-use Rattle.tone.specs.Pixels.{IsPixel, exactLuminance, isBlack, luminanceOf, IsLuminance}
+use Rattle.tone.specs.Pixels.{IsPixel, exactLuminance, anyLit, luminanceOf, IsLuminance}
 use Rattle.tone.specs.Tallies.{tallyOf}
 use Rattle.tone.proofs.Laws.{luminance-range, tally-snoc}
-use Rattle.page.specs.Tallying.{ifLit, luminancesOf, withPixel, wordPixels}
-use Rattle.page.specs.Claims.{isLit, litCount}
+use Rattle.word.specs.Pixels.{wordPixels}
+use Rattle.page.specs.Tallying.{ifLit, luminancesOf, withPixel}
+use Rattle.page.specs.Claims.{litCount}
 
 -- ---- one pixel more
 
@@ -45,18 +46,9 @@ tally-pixel ps p = rw (luminances-append ps (p ∷ [])) (tally-one (luminancesOf
 abbrev pub storedLuminance : Pixel → Stored
 storedLuminance p = storedOf (exactLuminance p)
 
-any-lit : {X : Type 0} (r g b : Bool) (x y : X) → cond (r && g && b) x y ≡ cond (not r || not g || not b) y x
-any-lit true true true x y = refl
-any-lit true true false x y = refl
-any-lit true false b x y = refl
-any-lit false g b x y = refl
-
-luminance-is : (p : Pixel) → luminanceOf p ≡ cond (isLit p) (Luminance.Lit (storedLuminance p)) Unlit
+pub lit-luminance : (p : Pixel) → anyLit p ≡ true → luminanceOf p ≡ Luminance.Lit (storedLuminance p)
 unfolding luminanceOf
-luminance-is p = any-lit (isBlack (p .red)) (isBlack (p .green)) (isBlack (p .blue)) _ _
-
-pub lit-luminance : (p : Pixel) → isLit p ≡ true → luminanceOf p ≡ Luminance.Lit (storedLuminance p)
-lit-luminance p e = luminance-is p ∙ rw e
+lit-luminance p e = rw e
 
 count-one : (lit : Bool) (y : Stored) (ys : List Stored)
     → length (ifLit (cond lit (Luminance.Lit y) Unlit) ys) ≡ cond lit (suc (length ys)) (length ys)
@@ -64,9 +56,9 @@ count-one true y ys = refl
 count-one false y ys = refl
 
 pub lit-count : (ps : List Pixel) → length (luminancesOf ps) ≡ litCount ps
-unfolding luminancesOf
+unfolding luminancesOf luminanceOf
 lit-count [] = refl
-lit-count (p ∷ ps) = rw (luminance-is p, ← lit-count ps) (count-one (isLit p) (storedLuminance p) (luminancesOf ps))
+lit-count (p ∷ ps) = rw (← lit-count ps) (count-one (anyLit p) (storedLuminance p) (luminancesOf ps))
 
 pub luminances-few : (ps : List Pixel) → length (luminancesOf ps) ≤ length ps
 unfolding luminancesOf
@@ -87,11 +79,6 @@ pixels-valid [] = tt
 pixels-valid (r ∷ []) = tt
 pixels-valid (r ∷ g ∷ []) = tt
 pixels-valid (r ∷ g ∷ b ∷ ws) = (pixel-valid r g b, pixels-valid ws)
-
-pub take-valid : (n : ℕ) (ps : List Pixel) → Every IsPixel ps → Every IsPixel (take n ps)
-take-valid zero ps h = tt
-take-valid (suc n) [] h = tt
-take-valid (suc n) (p ∷ ps) h = (h .0, take-valid n ps (h .1))
 
 pub every-luminance : (ps : List Pixel) → Every IsPixel ps → Every IsLuminance (luminancesOf ps)
 unfolding luminancesOf

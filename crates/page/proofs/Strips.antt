@@ -29,7 +29,8 @@ use Rattle.tone.specs.Levels.{IsKey}
 use Rattle.tone.specs.Pixels.{IsPixel}
 use Rattle.tone.specs.Tallies.{sumOf, tallyOf}
 use Rattle.tone.proofs.Laws.{tally-is-sum, sum-fits, sum-has-average}
-use Rattle.page.specs.Tallying.{wordPixels, stripLuminances, stripAverage}
+use Rattle.word.specs.Pixels.{wordPixels}
+use Rattle.page.specs.Tallying.{stripLuminances, stripAverage}
 use Rattle.page.specs.Mapping.{levelsOf, levelBytes, stripLevels}
 use Rattle.page.proofs.Luminances.{pixels-valid, every-luminance, luminances-few}
 

@@ -1,56 +1,23 @@
 -- Loops over the pixels of channel words: one that tallies, one that stores levels. Assumes nothing.
 use Prim.Native.Nat.{ℕ, suc, _+_, _*_, _/_, _^_, _≤_, _<_}
-use mathlib.Core.Path.{_≡_, refl, sym, ap, _∙_}
-use mathlib.Core.List.{List, [], _∷_, _++_, map}
-use native.Mathlib.Numerals.{add-one}
+use mathlib.Core.Path.{_≡_, refl, sym, _∙_}
+use mathlib.Core.List.{List, [], _∷_, map}
 use native.Mathlib.Omega.{arith}
-use lib.ListN.{length, getD, set, take, drop, length-map, length-set, length-take, List·getD-map, drop-of-length-le}
-use lib.Seq.{take-suc, take-all, drop-cons, sets}
-use Rattle.number.specs.declared.channel.Channel.the-variants.{Black}
+use lib.ListN.{length, set, take, drop, length-map, length-set, length-take, drop-of-length-le}
+use lib.Seq.{take-all, sets}
 use Rattle.number.specs.declared.channel.Pixel.{Pixel}
-use Rattle.number.specs.Channels.{channelOfCode}
-use Rattle.word.specs.Pixels.{pixelOf, wordChannel}
-use Rattle.word.proofs.Pixels.{length-pixels, getD-pixels}
+use Rattle.number.proofs.Laws.{every-take}
+use Rattle.word.specs.Pixels.{wordPixels}
+use Rattle.word.proofs.Pixels.{length-word-pixels, pixelAt, one-more, one-less}
 use Rattle.tone.specs.declared.tally.Tally.{Tally}
 use Rattle.tone.specs.Averages.{IsSum}
-use Rattle.tone.specs.Pixels.{luminanceOf}
+use Rattle.tone.specs.Pixels.{IsPixel, luminanceOf}
 use Rattle.tone.specs.Tallies.{tallyOf}
 use Rattle.tone.proofs.Laws.{tally-is-sum}
 use Rattle.page.specs.declared.body_levels.Levels.{Levels}
-use Rattle.page.specs.Tallying.{luminancesOf, withPixel, wordPixels}
+use Rattle.page.specs.Tallying.{luminancesOf, withPixel}
 use Rattle.page.specs.Mapping.{levelBytes}
-use Rattle.page.proofs.Luminances.{tally-pixel, luminances-few, pixels-valid, every-luminance, take-valid}
-
--- ---- pixel p of the words
-
-black : wordChannel 0 ≡ Black
-unfolding channelOfCode
-black = refl
-
-pub length-word-pixels : (ws : List ℕ) → length (wordPixels ws) ≡ length ws / 3
-length-word-pixels ws = length-pixels (map wordChannel ws) ∙ ap (λ n. n / 3) (length-map ws wordChannel)
-
-abbrev pub pixelAt : List ℕ → (p : ℕ) → Pixel
-pixelAt ws p =
-    pixelOf (wordChannel (getD ws (3 * p) 0)) (wordChannel (getD ws (3 * p + 1) 0)) (wordChannel (getD ws (3 * p + 2) 0))
-
-module _ (ws : List ℕ) (p : ℕ) (inside : p < length ws / 3) where
-  there : p < length (wordPixels ws)
-  there = rw (length-word-pixels ws) inside
-
-  channel-at : (i : ℕ) → getD (map wordChannel ws) i Black ≡ wordChannel (getD ws i 0)
-  channel-at i = ap (λ c. getD (map wordChannel ws) i c) (sym black) ∙ List·getD-map wordChannel ws i 0
-
-  pixel-at : getD (wordPixels ws) p (pixelAt ws p) ≡ pixelAt ws p
-  pixel-at =
-      getD-pixels (map wordChannel ws) p (pixelAt ws p) (rw length-map inside)
-      ∙ rw (channel-at (3 * p), channel-at (3 * p + 1), channel-at (3 * p + 2))
-
-  pub one-more : take (p + 1) (wordPixels ws) ≡ take p (wordPixels ws) ++ (pixelAt ws p ∷ [])
-  one-more = rw (add-one p) (take-suc (wordPixels ws) p (pixelAt ws p) there ∙ rw pixel-at)
-
-  pub one-less : drop p (wordPixels ws) ≡ pixelAt ws p ∷ drop (p + 1) (wordPixels ws)
-  one-less = rw (add-one p) (drop-cons (wordPixels ws) p (pixelAt ws p) there ∙ rw pixel-at)
+use Rattle.page.proofs.Luminances.{tally-pixel, luminances-few, pixels-valid, every-luminance}
 
 -- ---- A loop that tallies: at each turn the tally is that of the pixels so far.
 
@@ -70,7 +37,7 @@ module _ (ws : List ℕ) (p : ℕ) {t : Tally} (inv : t ≡ tallied ws p) where
       let taken = length-take p (wordPixels ws) in
       let n = length-word-pixels ws in
       let less : length (luminancesOf ps) < 2 ^ 40 = omega arith in
-      rw inv (tally-is-sum (luminancesOf ps) (every-luminance ps (take-valid p (wordPixels ws) (pixels-valid ws))) (omega arith), less)
+      rw inv (tally-is-sum (luminancesOf ps) (every-luminance ps (every-take IsPixel p (wordPixels ws) (pixels-valid ws))) (omega arith), less)
 
   pub tallied-next : p < length ws / 3 → withPixel t (luminanceOf (pixelAt ws p)) ≡ tallied ws (p + 1)
   unfolding tallied

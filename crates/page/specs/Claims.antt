@@ -2,12 +2,12 @@
 -- "the words of its strip, the A of step 3 that the tally reports for them, and the level bytes of step 6 that mapping leaves in the tray"
 use Prim.Native.Nat.{ℕ, suc, _<_}
 use mathlib.Core.Path.{_≡_}
-use mathlib.Core.Bool.{Bool, true, cond, not, _||_}
+use mathlib.Core.Bool.{true, cond}
 use mathlib.Core.List.{List, [], _∷_}
 use lib.IntN.{ℤ}
 use lib.ListN.{length}
-use Rattle.number.specs.declared.channel.Channel.{Channel}
 use Rattle.number.specs.declared.channel.Pixel.{Pixel}
+use Rattle.number.specs.declared.ratio.Stored.{Stored}
 use Rattle.refusal.specs.declared.Verdict.{Verdict}
 use Rattle.refusal.specs.declared.Verdict.the-variants.{Accepted, Refused}
 use Rattle.strip.specs.Checks.{headerFields, checkOutput}
@@ -18,72 +18,76 @@ use Rattle.tone.specs.declared.average.Average.the-variants.{Absent, Present}
 use Rattle.tone.specs.Averages.{storedAverage}
 use Rattle.tone.specs.Claims.{MeanBound, LevelBound}
 use Rattle.tone.specs.Levels.{reinhard}
-use Rattle.tone.specs.Pixels.{isBlack}
+use Rattle.tone.specs.Pixels.{anyLit}
 use Rattle.tone.specs.Tallies.{tallyOf}
 use Rattle.page.specs.declared.tally.TallyOrRefusal.{TallyOrRefusal}
 use Rattle.page.specs.declared.tally.TallyOrRefusal.the-variants.{Holds, Refuses}
-use Rattle.page.specs.Tallying.{stripLuminances, stripAverage, tallyStrip}
+use Rattle.page.specs.Tallying.{luminancesOf, stripLuminances, stripAverage, tallyStrip}
 use Rattle.page.specs.Mapping.{stripLevels}
 
--- "A pixel is lit if any of its three channel words is; N counts these pixels."
-abbrev pub isLit : Pixel → Bool
-isLit p = not (isBlack (p .red)) || not (isBlack (p .green)) || not (isBlack (p .blue))
-
+-- "N counts these pixels."
 abbrev pub litCount : List Pixel → ℕ
 litCount [] = 0
-litCount (p ∷ ps) = cond (isLit p) (suc (litCount ps)) (litCount ps)
+litCount (p ∷ ps) = cond (anyLit p) (suc (litCount ps)) (litCount ps)
 
 -- ---- the two halves
 
--- "2^(A·N) is at most P^256, and P^256 is below 2^((A+2)·N)": N is the number of lit pixels, P the product of their luminances' worths
-pub record MeanHalf (s : List ℕ) (A : ℤ) : Type 0 where
-  pub count : length (stripLuminances s) ≡ litCount (stripPixels s)
-  pub mean : MeanBound A (stripLuminances s)
+-- "2^(A·N) is at most P^256, and P^256 is below 2^((A+2)·N)": N is the number of lit pixels, P the product of the worths of their
+-- luminances as stored
+pub record MeanHalf (ps : List Pixel) (A : ℤ) : Type 0 where
+  pub count : length (luminancesOf ps) ≡ litCount ps
+  pub mean : MeanBound A (luminancesOf ps)
 
--- Bytes, three a pixel in turn: what holds of each channel of a lit pixel and its level byte. More bytes may stand behind, and none is
--- missing.
-abbrev pub EachLevel : (Bound : Pixel → Channel → ℕ → Type 0) → List Pixel → (bytes : List ℕ) → Type 0
-EachLevel Bound [] bytes = Unit
-EachLevel Bound (p ∷ ps) [] = ⊥
-EachLevel Bound (p ∷ ps) (r ∷ []) = ⊥
-EachLevel Bound (p ∷ ps) (r ∷ g ∷ []) = ⊥
-EachLevel Bound (p ∷ ps) (r ∷ g ∷ b ∷ bytes) =
-    (isLit p ≡ true → Bound p (p .red) r × Bound p (p .green) g × Bound p (p .blue) b) × EachLevel Bound ps bytes
+-- what holds of the elements of a list with three bytes for each in turn; more bytes may stand behind, and none is missing
+abbrev pub EachThree : {X : Type 0} → (Bound : X → (r g b : ℕ) → Type 0) → List X → (bytes : List ℕ) → Type 0
+EachThree Bound [] bytes = Unit
+EachThree Bound (x ∷ xs) [] = ⊥
+EachThree Bound (x ∷ xs) (r ∷ []) = ⊥
+EachThree Bound (x ∷ xs) (r ∷ g ∷ []) = ⊥
+EachThree Bound (x ∷ xs) (r ∷ g ∷ b ∷ bytes) = Bound x r g b × EachThree Bound xs bytes
 
--- "The level byte of that channel is less than 5/2 away from it": from the exact value under the page's key and the stored average of A
-pub record LevelHalf (s : List ℕ) (A : ℤ) (bytes : List ℕ) : Type 0 where
-  pub each : EachLevel (LevelBound reinhard (headerFields s .key) (storedAverage A)) (stripPixels s) bytes
+-- "The level byte of that channel is less than 5/2 away from it", for each channel of a lit pixel
+abbrev pub LitBound : (K : ℕ) (average : Stored) → Pixel → (r g b : ℕ) → Type 0
+LitBound K a p r g b = anyLit p ≡ true
+    → LevelBound reinhard K a p (p .red) r × LevelBound reinhard K a p (p .green) g × LevelBound reinhard K a p (p .blue) b
 
--- Demand 3 of a page: words, A, level bytes
+-- under a key and the stored average of A
+pub record LevelHalf (K : ℕ) (ps : List Pixel) (A : ℤ) (bytes : List ℕ) : Type 0 where
+  pub each : EachThree (LitBound K (storedAverage A)) ps bytes
+
+-- demand 3 of a page: words, A, level bytes
 pub record ToneBounds (s : List ℕ) (A : ℤ) (bytes : List ℕ) : Type 0 where
-  pub mean : MeanHalf s A
-  pub levels : LevelHalf s A bytes
+  pub mean : MeanHalf (stripPixels s) A
+  pub levels : LevelHalf (headerFields s .key) (stripPixels s) A bytes
 
 -- ---- what the calls promise
 
--- of an average: where it is absent, no pixel is lit
-abbrev pub WhereLit : (s : List ℕ) → Average → (Half : ℤ → Type 0) → Type 0
-WhereLit s Absent Half = litCount (stripPixels s) ≡ 0
-WhereLit s (Present A average) Half = Half A
+-- what holds of the A of an average; absent is promised only where no pixel is lit
+abbrev pub WhereLit : List Pixel → Average → (Half : ℤ → Type 0) → Type 0
+WhereLit ps Absent Half = litCount ps ≡ 0
+WhereLit ps (Present A average) Half = Half A
 
 -- "the first half holds wherever the tally accepts, the second wherever mapping does"
-abbrev pub TallyIsBounded : (s : List ℕ) → TallyOrRefusal → Type 0
-TallyIsBounded s (Holds t average) = WhereLit s average (MeanHalf s)
-TallyIsBounded s (Refuses r i) = Unit
+abbrev pub TallyPromise : (s : List ℕ) → TallyOrRefusal → Type 0
+TallyPromise s (Holds t average) =
+    (t .count ≡ litCount (stripPixels s)) × WhereLit (stripPixels s) average (MeanHalf (stripPixels s))
+TallyPromise s (Refuses r i) = Unit
 
-abbrev pub MapIsBounded : (s : List ℕ) → Verdict → (bytes : List ℕ) → Type 0
-MapIsBounded s Accepted bytes = WhereLit s (stripAverage s) (λ A. LevelHalf s A bytes)
-MapIsBounded s (Refused r i) bytes = Unit
+abbrev pub MapPromise : (s : List ℕ) → Verdict → (bytes : List ℕ) → Type 0
+MapPromise s Accepted bytes =
+    WhereLit (stripPixels s) (stripAverage s) (λ A. LevelHalf (headerFields s .key) (stripPixels s) A bytes)
+MapPromise s (Refused r i) bytes = Unit
 
--- ---- both together, of every page that both calls accept and that has a lit pixel
+-- ---- both together, of every page that both calls accept and that has a lit pixel; what mapping accepts, the tally accepts
 
 -- the A that the tally reports, and demand 3 of it
-pub record Bounded (s bytes : List ℕ) : Type 0 where
+pub record BoundsReported (s bytes : List ℕ) : Type 0 where
   pub A : ℤ
   pub reported : tallyStrip s ≡ Holds (tallyOf (stripLuminances s)) (Present A (storedAverage A))
   pub bounds : ToneBounds s A bytes
 
 -- Proved as `demand-three` in proofs/Bounds.antt.
 abbrev pub DemandThree : Type 0
-DemandThree = (s output : List ℕ) → checkOutput s (length output) ≡ Accepted → 0 < litCount (stripPixels s)
-    → Bounded s (onto (stripLevels s) output)
+DemandThree =
+    (s output : List ℕ) → checkOutput s (length output) ≡ Accepted → 0 < litCount (stripPixels s)
+    → BoundsReported s (onto (stripLevels s) output)

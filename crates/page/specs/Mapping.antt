@@ -22,12 +22,12 @@ abbrev pub byChannel : (Channel → ℕ) → Pixel → Levels
 byChannel level p = record { red = level (p .red); green = level (p .green); blue = level (p .blue) }
 
 -- steps 4 to 6; the channels of an unlit pixel are black, and "Black gives 0"
-abbrev pub levelsUnder : Luminance → (K : ℕ) (average : Stored) → Pixel → Levels
-levelsUnder Unlit K a p = byChannel (λ c. 0) p
-levelsUnder (Lit y) K a p = byChannel (mappedLevel reinhard K a y) p
+abbrev pub levelsFrom : Luminance → (K : ℕ) (average : Stored) → Pixel → Levels
+levelsFrom Unlit K a p = byChannel (λ c. 0) p
+levelsFrom (Lit y) K a p = byChannel (mappedLevel reinhard K a y) p
 
 abbrev pub levelsOf : (K : ℕ) (average : Stored) → Pixel → Levels
-levelsOf K a p = levelsUnder (luminanceOf p) K a p
+levelsOf K a p = levelsFrom (luminanceOf p) K a p
 
 -- the bytes in the order of the channels
 abbrev pub levelBytes : List Levels → List ℕ

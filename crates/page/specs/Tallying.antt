@@ -1,12 +1,11 @@
 -- The tally of a page. Assumes nothing.
 -- "A tally of a strip gives N, the sum of steps (0 if N = 0), A and the stored average"
 use Prim.Native.Nat.{ℕ}
-use mathlib.Core.List.{List, [], _∷_, map}
+use mathlib.Core.List.{List, [], _∷_}
 use Rattle.number.specs.declared.channel.Pixel.{Pixel}
 use Rattle.number.specs.declared.ratio.Stored.{Stored}
 use Rattle.refusal.specs.declared.Verdict.{Verdict}
 use Rattle.refusal.specs.declared.Verdict.the-variants.{Accepted, Refused}
-use Rattle.word.specs.Pixels.{pixelsOf, wordChannel}
 use Rattle.strip.specs.Checks.{checkStrip}
 use Rattle.strip.specs.Reading.{stripPixels}
 use Rattle.tone.specs.declared.average.Average.{Average}
@@ -24,7 +23,7 @@ abbrev pub ifLit : Luminance → List Stored → List Stored
 ifLit Unlit ys = ys
 ifLit (Lit y) ys = y ∷ ys
 
--- One list stands for a page: the luminances of its lit pixels.
+-- One list stands for a page in its tally: the luminances of its lit pixels.
 unfoldable pub luminancesOf : List Pixel → List Stored
 luminancesOf [] = []
 luminancesOf (p ∷ ps) = ifLit (luminanceOf p) (luminancesOf ps)
@@ -33,10 +32,6 @@ luminancesOf (p ∷ ps) = ifLit (luminanceOf p) (luminancesOf ps)
 abbrev pub withPixel : Tally → Luminance → Tally
 withPixel t Unlit = t
 withPixel t (Lit y) = withLuminance t y
-
--- the pixels of accepted channel words
-abbrev pub wordPixels : List ℕ → List Pixel
-wordPixels ws = pixelsOf (map wordChannel ws)
 
 -- ---- of a strip
 

@@ -9,7 +9,7 @@ ghost use Rattle.strip.specs.Output.{onto};
 ghost use Rattle.strip.specs.Reading.{stripPixels};
 ghost use Rattle.tone.specs.Levels.{IsKey, IsStoredAverage};
 ghost use Rattle.tone.specs.Pixels.{IsPixel};
-ghost use Rattle.page.specs.Tallying.{wordPixels};
+ghost use Rattle.word.specs.Pixels.{wordPixels};
 ghost use Rattle.page.specs.Mapping.{levelsOf, levelBytes};
 use number::channel::Pixel;
 use number::ratio::Stored;
@@ -78,7 +78,7 @@ fn fill_levels(words: &[u32], key: u64, average: Stored, output: &mut [u8])
 }
 
 // The levels of an accepted strip under an average, into the front of the output.
-pub fn strip_levels(strip: &[u32], average: Stored, output: &mut [u8])
+pub fn body_levels(strip: &[u32], average: Stored, output: &mut [u8])
     requires { ⌜ (checkStrip (now strip) ≡ Verdict.Accepted) × IsStoredAverage average × (channelCount (now strip) ≤ length (now output)) ⌝ }
     ensures { λ _. ⌜ now (output .exit) ≡ onto (levelBytes (map (levelsOf (headerFields (now (strip .entry)) .key) average) (stripPixels (now (strip .entry))))) (now (output .entry)) ⌝ }
 {

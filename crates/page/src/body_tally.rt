@@ -8,7 +8,8 @@ ghost use Rattle.tone.specs.Averages.{IsSum};
 ghost use Rattle.tone.specs.Pixels.{IsPixel, luminanceOf};
 ghost use Rattle.tone.specs.Tables.{IsLogTable};
 ghost use Rattle.tone.specs.Tallies.{tallyOf};
-ghost use Rattle.page.specs.Tallying.{withPixel, wordPixels, luminancesOf, stripLuminances};
+ghost use Rattle.word.specs.Pixels.{wordPixels};
+ghost use Rattle.page.specs.Tallying.{withPixel, luminancesOf, stripLuminances};
 use number::channel::Pixel;
 use tone::luminance::Luminance;
 use tone::luminance::pixel_luminance;
@@ -53,7 +54,7 @@ fn tally_pixels(words: &[u32]) -> Tally
 }
 
 // The tally of an accepted strip.
-pub fn strip_tally(strip: &[u32]) -> Tally
+pub fn body_tally(strip: &[u32]) -> Tally
     requires { ⌜ checkStrip (now strip) ≡ Verdict.Accepted ⌝ }
     ensures { λ r. ⌜ r ≡ tallyOf (stripLuminances (now (strip .entry))) ⌝ }
 {

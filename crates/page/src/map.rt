@@ -4,10 +4,10 @@ ghost use lib.ListN.{length};
 ghost use Rattle.strip.specs.Checks.{checkOutput};
 ghost use Rattle.strip.specs.Output.{after};
 ghost use Rattle.page.specs.Mapping.{stripLevels};
-ghost use Rattle.page.specs.Claims.{MapIsBounded};
+ghost use Rattle.page.specs.Claims.{MapPromise};
+use crate::body_levels::body_levels;
 use crate::body_levels::clear_levels;
-use crate::body_levels::strip_levels;
-use crate::body_tally::strip_tally;
+use crate::body_tally::body_tally;
 use refusal::Verdict;
 use strip::check::check_output;
 use tone::average::Average;
@@ -18,17 +18,17 @@ use word::header::pixel_count;
 pub fn map(strip: &[u32], output: &mut [u8]) -> Verdict
     ensures verdict { λ r. ⌜ r ≡ checkOutput (now (strip .entry)) (length (now (output .entry))) ⌝ }
     ensures content { λ r. ⌜ now (output .exit) ≡ after r (stripLevels (now (strip .entry))) (now (output .entry)) ⌝ }
-    ensures bound { λ r. ⌜ MapIsBounded (now (strip .entry)) r (now (output .exit)) ⌝ }
+    ensures bound { λ r. ⌜ MapPromise (now (strip .entry)) r (now (output .exit)) ⌝ }
 {
     let verdict = check_output(strip, output.len());
     let Verdict::Accepted = verdict else {
         return verdict;
     };
-    let tally = strip_tally(strip);
+    let tally = body_tally(strip);
     let Average::Present(_, average) = average_of(tally.count, tally.sum) else {
         clear_levels(3 * pixel_count(strip[0]), output);
         return Verdict::Accepted;
     };
-    strip_levels(strip, average, output);
+    body_levels(strip, average, output);
     Verdict::Accepted
 }

@@ -1,8 +1,8 @@
 // The tally of a page.
 ghost use mathlib.Core.Path.{_≡_};
 ghost use Rattle.page.specs.Tallying.{tallyStrip};
-ghost use Rattle.page.specs.Claims.{TallyIsBounded};
-use crate::body_tally::strip_tally;
+ghost use Rattle.page.specs.Claims.{TallyPromise};
+use crate::body_tally::body_tally;
 use refusal::Refusal;
 use refusal::Verdict;
 use strip::check::check;
@@ -10,21 +10,22 @@ use tone::average::Average;
 use tone::average::average_of;
 use tone::tally::Tally;
 
-// The tally of an accepted strip with its average, or its refusal with the index where it was found.
+// The tally of an accepted strip with its average, or its refusal with the index where it was found, of which `outcome_of` tells
+// number and place.
 pub enum TallyOrRefusal {
     Holds(Tally, Average),
     Refuses(Refusal, usize),
 }
 
-// The lit pixels of a strip, the sum of their steps and the average, or the strip's refusal.
+// The number of lit pixels of a strip, the sum of their steps and the average, or the strip's refusal.
 pub fn tally(strip: &[u32]) -> TallyOrRefusal
     ensures answer { λ r. ⌜ r ≡ tallyStrip (now (strip .entry)) ⌝ }
-    ensures bound { λ r. ⌜ TallyIsBounded (now (strip .entry)) r ⌝ }
+    ensures bound { λ r. ⌜ TallyPromise (now (strip .entry)) r ⌝ }
 {
     let verdict = check(strip);
     match verdict {
         Verdict::Accepted => {
-            let tally = strip_tally(strip);
+            let tally = body_tally(strip);
             TallyOrRefusal::Holds(tally, average_of(tally.count, tally.sum))
         },
         Verdict::Refused(refusal, i) => TallyOrRefusal::Refuses(refusal, i),

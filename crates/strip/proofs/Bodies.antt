@@ -8,7 +8,7 @@ use Rattle.refusal.proofs.Laws.{and-passed}
 use Rattle.word.specs.Words.{bodyStart}
 use Rattle.word.specs.Placing.{placed, firstRefusal, channelsOf}
 use Rattle.word.specs.Fields.{low16, decodeWord}
-use Rattle.word.specs.Pixels.{pixelsOf, wordChannel}
+use Rattle.word.specs.Pixels.{pixelsOf, wordChannel, wordPixels}
 use Rattle.word.proofs.Decoding.{holds, is-word}
 use Rattle.word.proofs.Pixels.{word-channel}
 use Rattle.strip.specs.Checks.{headerFields, bodyPart, decodedBody}
@@ -33,5 +33,5 @@ channels-low start k (w ∷ ws) e =
     let q = and-passed _ _ e in
     rw (word-channel k w (holds _ _ (q .0)), channels-low start (suc k) ws (q .1))
 
-pub pixels-in : (s : List ℕ) → firstRefusal (decodedBody s) ≡ Accepted → stripPixels s ≡ pixelsOf (map wordChannel (bodyPart s))
+pub pixels-in : (s : List ℕ) → firstRefusal (decodedBody s) ≡ Accepted → stripPixels s ≡ wordPixels (bodyPart s)
 pixels-in s e = ap pixelsOf (channels-low (bodyStart (headerFields s)) 0 (bodyPart s) e)

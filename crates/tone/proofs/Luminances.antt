@@ -1,6 +1,6 @@
 -- The luminance of a pixel: lit or not by its channels, and where every lit one lies. Assumes nothing.
 use mathlib.Core.Path.{_≡_, refl, sym, ap, _∙_, subst}
-use mathlib.Core.Bool.{Bool, true, false, cond, _&&_}
+use mathlib.Core.Bool.{Bool, true, false, cond, not, _||_}
 use Prim.Native.Nat.{ℕ, zero, suc, _+_, _*_, _^_, _≤_, _<_, zero-le}
 use native.Mathlib.Nat.{mul-le-mul, mul-le-mul-right, mul-pos}
 use native.Mathlib.Omega.{arith}
@@ -35,7 +35,7 @@ use Rattle.tone.proofs.Storables.{StoresAs, shut}
 
 -- by the three tests
 abbrev told : (p : Pixel) (r g b : Bool) → Luminance
-told p r g b = cond (r && g && b) Unlit (Luminance.Lit (storedOf (exactLuminance p)))
+told p r g b = cond (not r || not g || not b) (Luminance.Lit (storedOf (exactLuminance p))) Unlit
 
 by-tests : (p : Pixel) → luminanceOf p ≡ told p (isBlack (p .red)) (isBlack (p .green)) (isBlack (p .blue))
 unfolding luminanceOf

@@ -7,7 +7,7 @@ use native.Mathlib.Omega.{arith}
 use lib.IntN.{ℤ, pos, subℕ, _+ℤ_, _-ℤ_, _*ℤ_}
 use lib.ListN.{length}
 use lib.Pow.{pow-add, pow-pos}
-use Rattle.number.proofs.Laws.{Every, Frac, AtMost, Below, IsMantissa, unit-power}
+use Rattle.number.proofs.Laws.{Every, every-map, Frac, AtMost, Below, IsMantissa, unit-power}
 use Rattle.number.specs.declared.ratio.Stored.{Stored}
 use Rattle.tone.specs.Averages.{floorDiv}
 use Rattle.tone.specs.Claims.{productOfWorths, twoToThe, MeanWithin, MeanBound, MeanIsBounded}
@@ -20,7 +20,7 @@ use Rattle.tone.proofs.Differences.{sub-minus, sub-plus, sub-times}
 use Rattle.tone.proofs.Division.{floor-sub}
 use Rattle.tone.proofs.Powers.{power-at-most, below-power}
 use Rattle.tone.proofs.Rules.{log-below, log-above}
-use Rattle.tone.proofs.Spread.{mul-pow, pow-mul, total, productOf, every-map, mean-low, mean-high}
+use Rattle.tone.proofs.Spread.{mul-pow, pow-mul, total, productOf, mean-low, mean-high}
 use Rattle.tone.proofs.Sums.{raisedSteps, sum-is}
 
 -- T[M] is a logarithm of M + 1/2 to within a step: 2^(s·T + l) ≤ (2M+1)^(256·s) < 2^(s·(T+1) + l)

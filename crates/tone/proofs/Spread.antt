@@ -55,10 +55,6 @@ module _ {X : Type 0} where
   productOf f [] = 1
   productOf f (x ∷ xs) = f x * productOf f xs
 
-  pub every-map : {P Q : X → Type 0} → ((x : X) → P x → Q x) → (xs : List X) → Every P xs → Every Q xs
-  every-map f [] h = tt
-  every-map f (x ∷ xs) h = (f x (h .0), every-map f xs (h .1))
-
 module _ {X : Type 0} (worth : X → ℕ) (p : ℕ) where
   low : (e : X → ℕ) (xs : List X) → Every (λ x. 2 ^ e x ≤ worth x ^ p) xs → 2 ^ total e xs ≤ productOf worth xs ^ p
   low e [] h = rw one-pow (le-refl 1)

@@ -1,5 +1,5 @@
 -- Step 1, the luminance of a pixel. Assumes nothing.
-use mathlib.Core.Bool.{Bool, true, false, cond, _&&_}
+use mathlib.Core.Bool.{Bool, true, false, cond, not, _||_}
 use Prim.Native.Nat.{_+_, _*_, _≤_}
 use Rattle.number.proofs.Laws.{Frac, _over_, IsMantissa, IsChannel, unit, worthOf, storedOf}
 use Rattle.number.specs.declared.channel.Channel.{Channel}
@@ -23,10 +23,13 @@ abbrev pub isBlack : Channel → Bool
 isBlack Black = true
 isBlack (Lit E M) = false
 
+-- "A pixel is lit if any of its three channel words is"
+abbrev pub anyLit : Pixel → Bool
+anyLit p = not (isBlack (p .red)) || not (isBlack (p .green)) || not (isBlack (p .blue))
+
 -- "stored as above. All black: the pixel is unlit."
 unfoldable pub luminanceOf : Pixel → Luminance
-luminanceOf p =
-    cond (isBlack (p .red) && isBlack (p .green) && isBlack (p .blue)) Unlit (Luminance.Lit (storedOf (exactLuminance p)))
+luminanceOf p = cond (anyLit p) (Luminance.Lit (storedOf (exactLuminance p))) Unlit
 
 -- "E is 67 to 184", and more closely: every lit luminance lies from (67,246) to (184,255)
 pub record IsLuminance (y : Stored) : Type 0 where

@@ -1,9 +1,11 @@
 -- Laws of the pixels that words stand for. Assumes nothing.
 use Prim.Native.Nat.{ℕ, zero, suc, _+_, _*_, _/_, _<_}
-use mathlib.Core.Path.{_≡_, refl}
-use mathlib.Core.List.{List, [], _∷_}
+use mathlib.Core.Path.{_≡_, refl, sym, ap, _∙_}
+use mathlib.Core.List.{List, [], _∷_, _++_, map}
+use native.Mathlib.Numerals.{add-one}
 use native.Mathlib.Omega.{arith}
-use lib.ListN.{length, getD}
+use lib.ListN.{length, getD, take, drop, length-map, List·getD-map}
+use lib.Seq.{take-suc, drop-cons}
 use Rattle.number.specs.declared.channel.Channel.{Channel}
 use Rattle.number.specs.declared.channel.Channel.the-variants.{Black}
 use Rattle.number.specs.declared.channel.Decoded.{Decoded}
@@ -13,7 +15,7 @@ use Rattle.number.specs.Channels.{channelOfCode}
 use Rattle.number.proofs.Laws.{IsChannel, channel-code, code-channel}
 use Rattle.word.specs.Fields.{low16, decodeWord}
 use Rattle.word.specs.Placing.{channelIn}
-use Rattle.word.specs.Pixels.{pixelOf, pixelsOf, wordChannel}
+use Rattle.word.specs.Pixels.{pixelOf, pixelsOf, wordChannel, wordPixels}
 use Rattle.word.proofs.Decoding.{is-word}
 
 -- ---- channels by threes
@@ -52,3 +54,34 @@ decoded-valid n (Refuses r) e = tt
 
 pub word-valid : (w : ℕ) → IsChannel (wordChannel w)
 word-valid w = decoded-valid (low16 w) _ refl
+
+-- ---- pixel p of channel words
+
+black : wordChannel 0 ≡ Black
+unfolding channelOfCode
+black = refl
+
+pub length-word-pixels : (ws : List ℕ) → length (wordPixels ws) ≡ length ws / 3
+length-word-pixels ws = length-pixels (map wordChannel ws) ∙ ap (λ n. n / 3) (length-map ws wordChannel)
+
+abbrev pub pixelAt : List ℕ → (p : ℕ) → Pixel
+pixelAt ws p =
+    pixelOf (wordChannel (getD ws (3 * p) 0)) (wordChannel (getD ws (3 * p + 1) 0)) (wordChannel (getD ws (3 * p + 2) 0))
+
+module _ (ws : List ℕ) (p : ℕ) (inside : p < length ws / 3) where
+  there : p < length (wordPixels ws)
+  there = rw (length-word-pixels ws) inside
+
+  channel-at : (i : ℕ) → getD (map wordChannel ws) i Black ≡ wordChannel (getD ws i 0)
+  channel-at i = ap (λ c. getD (map wordChannel ws) i c) (sym black) ∙ List·getD-map wordChannel ws i 0
+
+  pixel-at : getD (wordPixels ws) p (pixelAt ws p) ≡ pixelAt ws p
+  pixel-at =
+      getD-pixels (map wordChannel ws) p (pixelAt ws p) (rw length-map inside)
+      ∙ rw (channel-at (3 * p), channel-at (3 * p + 1), channel-at (3 * p + 2))
+
+  pub one-more : take (p + 1) (wordPixels ws) ≡ take p (wordPixels ws) ++ (pixelAt ws p ∷ [])
+  one-more = rw (add-one p) (take-suc (wordPixels ws) p (pixelAt ws p) there ∙ rw pixel-at)
+
+  pub one-less : drop p (wordPixels ws) ≡ pixelAt ws p ∷ drop (p + 1) (wordPixels ws)
+  one-less = rw (add-one p) (drop-cons (wordPixels ws) p (pixelAt ws p) there ∙ rw pixel-at)

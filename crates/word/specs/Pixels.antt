@@ -1,6 +1,6 @@
 -- The pixels that words stand for. Assumes nothing.
 use Prim.Native.Nat.{ℕ}
-use mathlib.Core.List.{List, [], _∷_}
+use mathlib.Core.List.{List, [], _∷_, map}
 use Rattle.number.specs.declared.channel.Channel.{Channel}
 use Rattle.number.specs.declared.channel.Pixel.{Pixel}
 use Rattle.number.specs.Channels.{channelOfCode}
@@ -17,6 +17,10 @@ pixelsOf (r ∷ g ∷ []) = []
 pixelsOf (r ∷ []) = []
 pixelsOf [] = []
 
--- the channel of an accepted word; any other counts as black where its lower half is no channel
+-- the channel of an accepted word; of any other that of its lower half, black where that is none
 abbrev pub wordChannel : (w : ℕ) → Channel
 wordChannel w = channelIn (channelOfCode (low16 w))
+
+-- the pixels of channel words
+abbrev pub wordPixels : List ℕ → List Pixel
+wordPixels ws = pixelsOf (map wordChannel ws)

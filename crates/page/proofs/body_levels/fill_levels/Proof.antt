@@ -7,7 +7,7 @@ use native.Mathlib.Omega.{arith}
 use lib.ListN.{length}
 use Rattle.strip.specs.Output.{onto}
 use Rattle.strip.proofs.Outputs.{sets-front}
-use Rattle.page.specs.Tallying.{wordPixels}
+use Rattle.word.specs.Pixels.{wordPixels}
 use Rattle.page.specs.Mapping.{levelsOf, levelBytes}
 use Rattle.page.proofs.Luminances.{pixel-valid}
 use Rattle.page.proofs.Walks.{filling, filling-all, filling-next, filling-done, levels-fit}

@@ -27,13 +27,13 @@ ok : (c : tie.After-enum-told) → checkStrip (now (c .before .before .before .b
 ok c = mapped-strip _ (length (now (c .before .before .before .before .before .args .output))) (cc)
 
 average-of-requires : tie.Need-average-of-requires
-average-of-requires c κs = has-average _ (limits (c .before .before) .strip) _ (c .before .strip-tally .ensures)
+average-of-requires c κs = has-average _ (limits (c .before .before) .strip) _ (c .before .body-tally .ensures)
 
 told : (c : tie.After-average-of)
     → c .average-of .result ≡ stripAverage (now (c .before .before .before .before .before .before .before .before .args .strip))
 told c =
     let t = c .before .before in
-    average-is _ (limits (t .before) .strip) _ (t .strip-tally .ensures) (c .average-of .ensures)
+    average-is _ (limits (t .before) .strip) _ (t .body-tally .ensures) (c .average-of .ensures)
 
 clear-levels-requires : tie.Need-clear-levels-requires
 clear-levels-requires c κs =
@@ -52,8 +52,8 @@ returns-2 c =
     filled _ (now (args .output)) _ (cc)
     (l .clear-levels .ensures ∙ ap (λ vs. onto vs (now (args .output))) (levels-absent _ (limits e .strip) none (p .pixel-count .ensures)))
 
-strip-levels-requires : tie.Need-strip-levels-requires
-strip-levels-requires c κs =
+body-levels-requires : tie.Need-body-levels-requires
+body-levels-requires c κs =
     let v = c .before .before in
     let a = v .before .before in
     let e = a .before .before .before in
@@ -69,7 +69,7 @@ returns-3 c =
     let args = e .before .before .before .before .before .args in
     let some = sym (told a) ∙ v .average .given .1 in
     filled _ (now (args .output)) _ (cc)
-    (l .strip-levels .ensures ∙ ap (λ vs. onto vs (now (args .output))) (levels-present _ (limits e .strip) some))
+    (l .body-levels .ensures ∙ ap (λ vs. onto vs (now (args .output))) (levels-present _ (limits e .strip) some))
 
 pub map-spec : {M : Type 1} → statement M
 map-spec =
@@ -79,4 +79,4 @@ map-spec =
     (λ c. search needs) (λ c. search needs)
     (λ c. omega (arith, limits (c .before .before .before .before .before .before) .strip .head .long)) (λ c κs. search needs)
     (λ c. omega (arith, c .pixel-count .ensures, limits (c .before .before .before .before .before .before .before) .fits))
-    clear-levels-requires (λ c. search needs) returns-2 strip-levels-requires (λ c. search needs) returns-3)
+    clear-levels-requires (λ c. search needs) returns-2 body-levels-requires (λ c. search needs) returns-3)

@@ -12,12 +12,12 @@ strip : (c : tie.After-enum-told) → Whole (now (c .before .before .before .bef
 strip c = accepted _ (cc)
 
 average-of-requires : tie.Need-average-of-requires
-average-of-requires c κs = has-average _ (strip (c .before .before)) _ (c .before .strip-tally .ensures)
+average-of-requires c κs = has-average _ (strip (c .before .before)) _ (c .before .body-tally .ensures)
 
 returns : tie.Need-returns
 returns c =
     let t = c .before .before in
-    let told = t .strip-tally .ensures in
+    let told = t .body-tally .ensures in
     bounded _ (answered _ (cc) told (average-is _ (strip (t .before)) _ told (c .average-of .ensures)))
 
 returns-2 : tie.Need-returns-2

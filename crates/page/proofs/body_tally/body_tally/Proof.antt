@@ -1,11 +1,11 @@
--- `page::body_tally::strip_tally` meets its contract. Assumes nothing.
+-- `page::body_tally::body_tally` meets its contract. Assumes nothing.
 use borrow.Author.Needs.{needs}
 use native.Mathlib.Omega.{arith}
 use denote.Ref.{now}
 use Rattle.strip.proofs.Limits.{Whole}
 use Rattle.page.proofs.Strips.{accepted, body-lent, strip-pixels, few-pixels}
-use Rattle.page.proofs.body_tally.strip_tally.Statement.{statement}
-use Rattle.page.proofs.body_tally.strip_tally.Tie as tie
+use Rattle.page.proofs.body_tally.body_tally.Statement.{statement}
+use Rattle.page.proofs.body_tally.body_tally.Tie as tie
 
 strip : (c : tie.After-pixel-count) → Whole (now (c .before .before .before .args .strip))
 strip c = accepted _ (c .before .before .before .pre)
@@ -16,8 +16,8 @@ returns c =
     let s = now (p .before .before .before .args .strip) in
     rw (body-lent s _ (p .pixel-count .ensures), ← strip-pixels s (strip p)) at (c .tally-pixels .ensures)
 
-pub strip-tally-spec : {M : Type 1} → statement M
-strip-tally-spec =
+pub body-tally-spec : {M : Type 1} → statement M
+body-tally-spec =
     tie.close
     (tie.spec
     (λ c. omega (arith, accepted _ (c .before .before .pre) .head .long)) (λ c κs. search needs)

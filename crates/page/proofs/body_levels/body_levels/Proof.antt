@@ -1,11 +1,11 @@
--- `page::body_levels::strip_levels` meets its contract. Assumes nothing.
+-- `page::body_levels::body_levels` meets its contract. Assumes nothing.
 use borrow.Author.Needs.{needs}
 use native.Mathlib.Omega.{arith}
 use denote.Ref.{now}
 use Rattle.strip.proofs.Limits.{Whole}
 use Rattle.page.proofs.Strips.{accepted, body-lent, strip-pixels, few-pixels, strip-key}
-use Rattle.page.proofs.body_levels.strip_levels.Statement.{statement}
-use Rattle.page.proofs.body_levels.strip_levels.Tie as tie
+use Rattle.page.proofs.body_levels.body_levels.Statement.{statement}
+use Rattle.page.proofs.body_levels.body_levels.Tie as tie
 
 strip : (c : tie.After-pixel-count) → Whole (now (c .before .before .before .before .args .strip))
 strip c = accepted _ (c .before .before .before .before .pre .0)
@@ -28,8 +28,8 @@ returns c =
     let s = now (p .before .before .before .before .args .strip) in
     rw (body-lent s _ (p .pixel-count .ensures), ← strip-pixels s (strip p), h .low-half .ensures) at (f .fill-levels .ensures)
 
-pub strip-levels-spec : {M : Type 1} → statement M
-strip-levels-spec =
+pub body-levels-spec : {M : Type 1} → statement M
+body-levels-spec =
     tie.close
     (tie.spec
     (λ c. omega (arith, accepted _ (c .before .before .before .pre .0) .head .long)) (λ c κs. search needs)
