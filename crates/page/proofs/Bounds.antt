@@ -28,7 +28,8 @@ use Rattle.page.specs.declared.tally.TallyOrRefusal.{TallyOrRefusal}
 use Rattle.page.specs.declared.tally.TallyOrRefusal.the-variants.{Holds, Refuses}
 use Rattle.page.specs.Tallying.{stripLuminances, stripAverage, tallyUnder, tallyStrip}
 use Rattle.page.specs.Mapping.{levelsOf, levelBytes, stripLevels}
-use Rattle.page.specs.Claims.{litCount, MeanHalf, EachThree, LitBound, LevelHalf, WhereLit, TallyPromise, MapPromise, BoundsReported, DemandThree}
+use Rattle.page.specs.Claims.{litCount, MeanHalf, EachThree, LitBound, LevelHalf, BoundsReported, DemandThree}
+use Rattle.page.specs.Claims.{WhereLit, TallyPromise, MapPromise}
 use Rattle.page.proofs.Luminances.{storedLuminance, lit-luminance, lit-count, every-luminance}
 use Rattle.page.proofs.Strips.{accepted, mapped-strip, strip-key, strip-valid, strip-sum}
 

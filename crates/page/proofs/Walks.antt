@@ -37,7 +37,8 @@ module _ (ws : List ℕ) (p : ℕ) {t : Tally} (inv : t ≡ tallied ws p) where
       let taken = length-take p (wordPixels ws) in
       let n = length-word-pixels ws in
       let less : length (luminancesOf ps) < 2 ^ 40 = omega arith in
-      rw inv (tally-is-sum (luminancesOf ps) (every-luminance ps (every-take IsPixel p (wordPixels ws) (pixels-valid ws))) (omega arith), less)
+      let every = every-luminance ps (every-take IsPixel p (wordPixels ws) (pixels-valid ws)) in
+      rw inv (tally-is-sum (luminancesOf ps) every (omega arith), less)
 
   pub tallied-next : p < length ws / 3 → withPixel t (luminanceOf (pixelAt ws p)) ≡ tallied ws (p + 1)
   unfolding tallied
