@@ -15,7 +15,7 @@ use Rattle.refusal.specs.declared.Verdict.the-variants.{Accepted, Refused}
 use Rattle.strip.specs.Checks.{headerFields, checkStrip, checkOutput}
 use Rattle.strip.specs.Output.{onto, after}
 use Rattle.strip.specs.Reading.{stripPixels}
-use Rattle.strip.proofs.Limits.{Whole}
+use Rattle.strip.proofs.Limits.{Whole, whole-strip, output-strip}
 use Rattle.tone.specs.declared.average.Average.{Average}
 use Rattle.tone.specs.declared.average.Average.the-variants.{Absent, Present}
 use Rattle.tone.specs.declared.tally.Tally.{Tally}
@@ -31,7 +31,7 @@ use Rattle.page.specs.Mapping.{levelsOf, levelBytes, stripLevels}
 use Rattle.page.specs.Claims.{litCount, MeanHalf, EachThree, LitBound, LevelHalf, BoundsReported, DemandThree}
 use Rattle.page.specs.Claims.{WhereLit, TallyPromise, MapPromise}
 use Rattle.page.proofs.Luminances.{storedLuminance, lit-luminance, lit-count, every-luminance}
-use Rattle.page.proofs.Strips.{accepted, mapped-strip, strip-key, strip-valid, strip-sum}
+use Rattle.page.proofs.Strips.{strip-key, strip-valid, strip-sum}
 
 -- ---- the levels of a list of pixels, with anything behind them
 
@@ -96,14 +96,14 @@ tally-bound s = by (checkStrip s) refl
   where
     by : (v : Verdict) → checkStrip s ≡ v → TallyPromise s (tallyUnder v (tallyOf (stripLuminances s)))
     by Accepted e =
-        (lit-count (stripPixels s), where-lit s (accepted s e) (MeanHalf (stripPixels s)) (λ A q. mean-half s (accepted s e) q))
+        (lit-count (stripPixels s), where-lit s (whole-strip s e) (MeanHalf (stripPixels s)) (λ A q. mean-half s (whole-strip s e) q))
     by (Refused r i) e = tt
 
 pub bounded : (s : List ℕ) {r : TallyOrRefusal} → r ≡ tallyStrip s → (r ≡ tallyStrip s) × TallyPromise s r
 bounded s e = (e, subst (TallyPromise s) (sym e) (tally-bound s))
 
 map-bound : (s output : List ℕ) → checkStrip s ≡ Accepted → MapPromise s Accepted (onto (stripLevels s) output)
-map-bound s output e = where-lit s (accepted s e) _ (λ A q. level-half s (accepted s e) output q)
+map-bound s output e = where-lit s (whole-strip s e) _ (λ A q. level-half s (whole-strip s e) output q)
 
 -- the promise of mapping
 abbrev Mapped : (s old : List ℕ) → Verdict → (new : List ℕ) → Type 0
@@ -114,7 +114,7 @@ pub left-alone : (s old : List ℕ) {v : Verdict} {r : Refusal} {i : ℕ} → v 
 left-alone s old e f = (e, (rw f, rw f tt))
 
 pub filled : (s old new : List ℕ) → Accepted ≡ checkOutput s (length old) → new ≡ onto (stripLevels s) old → Mapped s old Accepted new
-filled s old new e f = (e, (f, rw f (map-bound s old (mapped-strip s (length old) (sym e)))))
+filled s old new e f = (e, (f, rw f (map-bound s old (output-strip s (length old) (sym e)))))
 
 -- ---- both together
 
@@ -131,5 +131,5 @@ module _ (s bytes : List ℕ) (ok : checkStrip s ≡ Accepted) (lit : 0 < litCou
 
 pub demand-three : DemandThree
 demand-three s output e lit =
-    let ok = mapped-strip s (length output) e in
+    let ok = output-strip s (length output) e in
     joined s _ ok lit (stripAverage s) refl (rw (← answered s ok refl refl) at (tally-bound s)) (map-bound s output ok)

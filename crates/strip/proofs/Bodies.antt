@@ -1,11 +1,13 @@
 -- Laws of the channel words of a strip. Assumes nothing.
-use Prim.Native.Nat.{ℕ, suc}
+use Prim.Native.Nat.{ℕ, suc, _+_, _-_, _*_}
 use mathlib.Core.Path.{_≡_, refl, ap}
 use mathlib.Core.List.{List, [], _∷_, map}
+use native.Mathlib.Nat.{add-sub-cancel-left}
+use lib.ListN.{take, drop}
 use Rattle.number.specs.Channels.{codeOf}
 use Rattle.refusal.specs.declared.Verdict.the-variants.{Accepted}
 use Rattle.refusal.proofs.Laws.{and-passed}
-use Rattle.word.specs.Words.{bodyStart}
+use Rattle.word.specs.Words.{bodyStart, pixels}
 use Rattle.word.specs.Placing.{placed, firstRefusal, channelsOf}
 use Rattle.word.specs.Fields.{low16, decodeWord}
 use Rattle.word.specs.Pixels.{pixelsOf, wordChannel, wordPixels}
@@ -35,3 +37,7 @@ channels-low start k (w ∷ ws) e =
 
 pub pixels-in : (s : List ℕ) → firstRefusal (decodedBody s) ≡ Accepted → stripPixels s ≡ wordPixels (bodyPart s)
 pixels-in s e = ap pixelsOf (channels-low (bodyStart (headerFields s)) 0 (bodyPart s) e)
+
+-- the channel words as a call lends them, which reads the number n of pixels in the size word
+pub body-lent : (s : List ℕ) (n : ℕ) → n ≡ pixels (headerFields s) → take (2 + 3 * n - 2) (drop 2 s) ≡ bodyPart s
+body-lent s n e = rw (add-sub-cancel-left 2 (3 * n), e)

@@ -70,8 +70,12 @@ whole added s e =
       record { head = headed s (a .0); channels = c .0; end = eqb-true _ _ (require-passed _ _ _ _ (c .1) .0) },
     )
 
--- and whatever it adds, the strip itself is accepted
-pub strip-accepted : (added : Verdict) (s : List ℕ) → checkWith added s ≡ Accepted → checkStrip s ≡ Accepted
+pub whole-strip : (s : List ℕ) → checkStrip s ≡ Accepted → Whole s
+unfolding checkStrip
+whole-strip s e = whole Accepted s e .1
+
+-- whatever a call adds, the strip itself is accepted
+strip-accepted : (added : Verdict) (s : List ℕ) → checkWith added s ≡ Accepted → checkStrip s ≡ Accepted
 unfolding checkStrip checkWith
 strip-accepted added s e =
     let a = and-passed _ _ e in
@@ -88,6 +92,10 @@ unfolding checkOutput
 output-limits s room e =
     let q = whole _ s e in
     record { strip = q .1; fits = leb-true _ _ (require-passed _ _ _ _ (q .0) .0) }
+
+pub output-strip : (s : List ℕ) (room : ℕ) → checkOutput s room ≡ Accepted → checkStrip s ≡ Accepted
+unfolding checkOutput
+output-strip s room e = strip-accepted _ s e
 
 pub record Inside (s : List ℕ) (y : ℕ) : Type 0 where
   pub strip : Whole s

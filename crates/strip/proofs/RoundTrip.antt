@@ -32,8 +32,9 @@ use Rattle.strip.specs.Checks.{
   checkOutput,
 }
 use Rattle.word.specs.Fields.{widthIn, heightIn, low16, decodeWord, checkSizeWord, checkKeyWord}
-use Rattle.strip.specs.Reading.{stripChannels}
+use Rattle.strip.specs.Reading.{stripChannels, stripPixels}
 use Rattle.word.proofs.Walks.{length-placed, length-words}
+use Rattle.word.proofs.Pixels.{length-pixels}
 use Rattle.word.proofs.Limits.{size-limits, key-limits}
 use Rattle.strip.proofs.Limits.{Whole}
 use Rattle.word.proofs.Decoding.{holds, is-word}
@@ -202,3 +203,6 @@ page-read s q =
       count = count;
       valid = channels-valid decodeWord word-valid 2 0 (bodyPart s) (q .channels);
     }
+
+pub count-pixels : (s : List ℕ) → Whole s → length (stripPixels s) ≡ pixels (headerFields s)
+count-pixels s q = let n = length-pixels (stripChannels s) in let m = page-read s q .count in omega arith

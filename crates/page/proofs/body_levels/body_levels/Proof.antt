@@ -2,13 +2,14 @@
 use borrow.Author.Needs.{needs}
 use native.Mathlib.Omega.{arith}
 use denote.Ref.{now}
-use Rattle.strip.proofs.Limits.{Whole}
-use Rattle.page.proofs.Strips.{accepted, body-lent, strip-pixels, few-pixels, strip-key}
+use Rattle.strip.proofs.Limits.{Whole, whole-strip}
+use Rattle.strip.proofs.Bodies.{pixels-in, body-lent}
+use Rattle.page.proofs.Strips.{few-pixels, strip-key}
 use Rattle.page.proofs.body_levels.body_levels.Statement.{statement}
 use Rattle.page.proofs.body_levels.body_levels.Tie as tie
 
 strip : (c : tie.After-pixel-count) → Whole (now (c .before .before .before .before .args .strip))
-strip c = accepted _ (c .before .before .before .before .pre .0)
+strip c = whole-strip _ (c .before .before .before .before .pre .0)
 
 fill-levels-requires : tie.Need-fill-levels-requires
 fill-levels-requires c κs =
@@ -26,13 +27,13 @@ returns c =
     let h = f .before .before .before in
     let p = h .before .before in
     let s = now (p .before .before .before .before .args .strip) in
-    rw (body-lent s _ (p .pixel-count .ensures), ← strip-pixels s (strip p), h .low-half .ensures) at (f .fill-levels .ensures)
+    rw (body-lent s _ (p .pixel-count .ensures), ← pixels-in s (strip p .channels), h .low-half .ensures) at (f .fill-levels .ensures)
 
 pub body-levels-spec : {M : Type 1} → statement M
 body-levels-spec =
     tie.close
     (tie.spec
-    (λ c. omega (arith, accepted _ (c .before .before .before .pre .0) .head .long)) (λ c κs. search needs)
+    (λ c. omega (arith, whole-strip _ (c .before .before .before .pre .0) .head .long)) (λ c κs. search needs)
     (λ c. omega (arith, c .pixel-count .ensures, few-pixels _ (strip c)))
     (λ c. omega (arith, c .pixel-count .ensures, few-pixels _ (strip c)))
     (λ c. omega (arith, strip (c .before) .head .long)) (λ c κs. search needs) (λ c. search needs) (λ c. search needs) (λ c. search needs)

@@ -2,25 +2,26 @@
 use borrow.Author.Needs.{needs}
 use native.Mathlib.Omega.{arith}
 use denote.Ref.{now}
-use Rattle.strip.proofs.Limits.{Whole}
-use Rattle.page.proofs.Strips.{accepted, body-lent, strip-pixels, few-pixels}
+use Rattle.strip.proofs.Limits.{Whole, whole-strip}
+use Rattle.strip.proofs.Bodies.{pixels-in, body-lent}
+use Rattle.page.proofs.Strips.{few-pixels}
 use Rattle.page.proofs.body_tally.body_tally.Statement.{statement}
 use Rattle.page.proofs.body_tally.body_tally.Tie as tie
 
 strip : (c : tie.After-pixel-count) → Whole (now (c .before .before .before .args .strip))
-strip c = accepted _ (c .before .before .before .pre)
+strip c = whole-strip _ (c .before .before .before .pre)
 
 returns : tie.Need-returns
 returns c =
     let p = c .before .before in
     let s = now (p .before .before .before .args .strip) in
-    rw (body-lent s _ (p .pixel-count .ensures), ← strip-pixels s (strip p)) at (c .tally-pixels .ensures)
+    rw (body-lent s _ (p .pixel-count .ensures), ← pixels-in s (strip p .channels)) at (c .tally-pixels .ensures)
 
 pub body-tally-spec : {M : Type 1} → statement M
 body-tally-spec =
     tie.close
     (tie.spec
-    (λ c. omega (arith, accepted _ (c .before .before .pre) .head .long)) (λ c κs. search needs)
+    (λ c. omega (arith, whole-strip _ (c .before .before .pre) .head .long)) (λ c κs. search needs)
     (λ c. omega (arith, c .pixel-count .ensures, few-pixels _ (strip c)))
     (λ c. omega (arith, c .pixel-count .ensures, few-pixels _ (strip c))) (λ c. search needs) (λ c. search needs)
     (λ c. omega (arith, c .pixel-count .ensures, strip c .head .long))

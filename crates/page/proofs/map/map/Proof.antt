@@ -7,11 +7,11 @@ use denote.Ref.{now}
 use Rattle.refusal.specs.declared.Verdict.the-variants.{Accepted}
 use Rattle.strip.specs.Checks.{checkStrip}
 use Rattle.strip.specs.Output.{onto}
-use Rattle.strip.proofs.Limits.{Fits, output-limits}
+use Rattle.strip.proofs.Limits.{Fits, output-limits, output-strip}
 use Rattle.tone.proofs.Laws.{reported-range}
 use Rattle.page.specs.Tallying.{stripAverage}
 use Rattle.page.proofs.Bounds.{left-alone, filled}
-use Rattle.page.proofs.Strips.{mapped-strip, strip-sum, has-average, average-is, levels-absent, levels-present}
+use Rattle.page.proofs.Strips.{strip-sum, has-average, average-is, levels-absent, levels-present}
 use Rattle.page.proofs.map.map.Statement.{statement}
 use Rattle.page.proofs.map.map.Tie as tie
 
@@ -24,7 +24,7 @@ limits : (c : tie.After-enum-told)
 limits c = output-limits _ _ (cc)
 
 ok : (c : tie.After-enum-told) → checkStrip (now (c .before .before .before .before .before .args .strip)) ≡ Accepted
-ok c = mapped-strip _ (length (now (c .before .before .before .before .before .args .output))) (cc)
+ok c = output-strip _ (length (now (c .before .before .before .before .before .args .output))) (cc)
 
 average-of-requires : tie.Need-average-of-requires
 average-of-requires c κs = has-average _ (limits (c .before .before) .strip) _ (c .before .body-tally .ensures)

@@ -2,14 +2,14 @@
 use borrow.Author.Needs.{needs}
 use mathlib.Core.Path.{sym, _∙_}
 use denote.Ref.{now}
-use Rattle.strip.proofs.Limits.{Whole}
+use Rattle.strip.proofs.Limits.{Whole, whole-strip}
 use Rattle.page.proofs.Bounds.{answered, refused, bounded}
-use Rattle.page.proofs.Strips.{accepted, has-average, average-is}
+use Rattle.page.proofs.Strips.{has-average, average-is}
 use Rattle.page.proofs.tally.tally.Statement.{statement}
 use Rattle.page.proofs.tally.tally.Tie as tie
 
 strip : (c : tie.After-enum-told) → Whole (now (c .before .before .before .before .args .strip))
-strip c = accepted _ (cc)
+strip c = whole-strip _ (cc)
 
 average-of-requires : tie.Need-average-of-requires
 average-of-requires c κs = has-average _ (strip (c .before .before)) _ (c .before .body-tally .ensures)

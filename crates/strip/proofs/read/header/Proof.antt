@@ -3,15 +3,12 @@ use borrow.Author.Needs.{needs}
 use mathlib.Core.Path.{sym}
 use native.Mathlib.Omega.{arith}
 use denote.Ref.{now}
-use Rattle.refusal.specs.declared.Verdict.the-variants.{Accepted}
-use Rattle.strip.specs.Checks.{checkStrip}
-use Rattle.strip.proofs.Limits.{Whole, whole}
+use Rattle.strip.proofs.Limits.{Whole, whole-strip}
 use Rattle.strip.proofs.read.header.Statement.{statement}
 use Rattle.strip.proofs.read.header.Tie as tie
 
 strip : (c : tie.After-enum-told) → Whole (now (c .before .before .before .before .args .strip))
-unfolding checkStrip
-strip c = whole Accepted (now (c .before .before .before .before .args .strip)) (cc) .1
+strip c = whole-strip _ (cc)
 
 returns : tie.Need-returns
 returns c =

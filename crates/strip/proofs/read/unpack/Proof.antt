@@ -1,15 +1,13 @@
 -- `strip::read::unpack` meets its contract: a refusal comes before the first store, and what is stored is `stripCodes`.
 -- Assumes nothing.
 use borrow.Author.Needs.{needs}
-use Prim.Native.Nat.{_*_}
 use mathlib.Core.Path.{sym, ap, _∙_}
 use native.Mathlib.Omega.{arith}
-use native.Mathlib.Nat.{add-sub-cancel-left}
 use lib.ListN.{length}
 use denote.Ref.{now}
 use Rattle.strip.specs.Output.{onto}
 use Rattle.strip.proofs.Limits.{Fits, output-limits}
-use Rattle.strip.proofs.Bodies.{codes-in}
+use Rattle.strip.proofs.Bodies.{codes-in, body-lent}
 use Rattle.strip.proofs.read.unpack.Statement.{statement}
 use Rattle.strip.proofs.read.unpack.Tie as tie
 
@@ -27,8 +25,7 @@ returns-2 : tie.Need-returns-2
 returns-2 c =
     let p = c .before .before .before .before .before in
     let a = p .before .before .before .before .before .before .before .args in
-    let stored =
-    rw (add-sub-cancel-left 2 (3 * p .pixel-count .result), p .pixel-count .ensures) at (c .before .before .store-codes .ensures) in
+    let stored = rw (body-lent (now (a .strip)) _ (p .pixel-count .ensures)) at (c .before .before .store-codes .ensures) in
     let codes = codes-in (now (a .strip)) (limits (p .before .before) .strip .channels) in
     (cc, stored ∙ ap (λ vs. onto vs (now (a .output))) (sym codes))
 
