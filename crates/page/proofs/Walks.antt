@@ -8,7 +8,7 @@ use lib.Seq.{take-all, sets}
 use Rattle.number.specs.declared.channel.Pixel.{Pixel}
 use Rattle.number.proofs.Laws.{every-take}
 use Rattle.word.specs.Pixels.{wordPixels}
-use Rattle.word.proofs.Pixels.{length-word-pixels, pixelAt, one-more, one-less}
+use Rattle.word.proofs.Pixels.{length-word-pixels, pixelAt, take-pixel, drop-pixel}
 use Rattle.tone.specs.declared.tally.Tally.{Tally}
 use Rattle.tone.specs.Averages.{IsSum}
 use Rattle.tone.specs.Pixels.{IsPixel, luminanceOf}
@@ -42,7 +42,7 @@ module _ (ws : List ℕ) (p : ℕ) {t : Tally} (inv : t ≡ tallied ws p) where
 
   pub tallied-next : p < length ws / 3 → withPixel t (luminanceOf (pixelAt ws p)) ≡ tallied ws (p + 1)
   unfolding tallied
-  tallied-next inside = rw (inv, one-more ws p inside) (sym (tally-pixel (take p (wordPixels ws)) (pixelAt ws p)))
+  tallied-next inside = rw (inv, take-pixel ws p inside) (sym (tally-pixel (take p (wordPixels ws)) (pixelAt ws p)))
 
   pub tallied-all : length ws / 3 ≤ p → t ≡ tallyOf (luminancesOf (wordPixels ws))
   unfolding tallied
@@ -85,7 +85,7 @@ module _ (f : Pixel → Levels) (ws : List ℕ) (p : ℕ) (t : List ℕ) {n : �
   filling-next inside e =
       let k : 3 * (p + 1) ≡ 3 * p + 3 = omega arith in
       let stores = three t (3 * p) (f (pixelAt ws p)) (map f (drop (p + 1) (wordPixels ws))) in
-      (simp length-set (inv .0), rw (k, e) (sym stores ∙ (rw (one-less ws p inside) at (inv .1))))
+      (simp length-set (inv .0), rw (k, e) (sym stores ∙ (rw (drop-pixel ws p inside) at (inv .1))))
 
   pub filling-done : length ws / 3 ≤ p → t ≡ u
   unfolding filling

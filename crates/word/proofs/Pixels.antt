@@ -80,8 +80,8 @@ module _ (ws : List ℕ) (p : ℕ) (inside : p < length ws / 3) where
       getD-pixels (map wordChannel ws) p (pixelAt ws p) (rw length-map inside)
       ∙ rw (channel-at (3 * p), channel-at (3 * p + 1), channel-at (3 * p + 2))
 
-  pub one-more : take (p + 1) (wordPixels ws) ≡ take p (wordPixels ws) ++ (pixelAt ws p ∷ [])
-  one-more = rw (add-one p) (take-suc (wordPixels ws) p (pixelAt ws p) there ∙ rw pixel-at)
+  pub take-pixel : take (p + 1) (wordPixels ws) ≡ take p (wordPixels ws) ++ (pixelAt ws p ∷ [])
+  take-pixel = rw (add-one p) (take-suc (wordPixels ws) p (pixelAt ws p) there ∙ rw pixel-at)
 
-  pub one-less : drop p (wordPixels ws) ≡ pixelAt ws p ∷ drop (p + 1) (wordPixels ws)
-  one-less = rw (add-one p) (drop-cons (wordPixels ws) p (pixelAt ws p) there ∙ rw pixel-at)
+  pub drop-pixel : drop p (wordPixels ws) ≡ pixelAt ws p ∷ drop (p + 1) (wordPixels ws)
+  drop-pixel = rw (add-one p) (drop-cons (wordPixels ws) p (pixelAt ws p) there ∙ rw pixel-at)
