@@ -40,7 +40,7 @@ pub tally-pixel : (ps : List Pixel) (p : Pixel)
 unfolding luminancesOf
 tally-pixel ps p = rw (luminances-append ps (p ∷ [])) (tally-one (luminancesOf ps) (luminanceOf p))
 
--- ---- N
+-- ---- the number of lit pixels
 
 -- of a pixel with a lit channel
 abbrev pub storedLuminance : Pixel → Stored

@@ -61,6 +61,9 @@ black : wordChannel 0 ≡ Black
 unfolding channelOfCode
 black = refl
 
+channel-at : (ws : List ℕ) (i : ℕ) → getD (map wordChannel ws) i Black ≡ wordChannel (getD ws i 0)
+channel-at ws i = ap (λ c. getD (map wordChannel ws) i c) (sym black) ∙ List·getD-map wordChannel ws i 0
+
 pub length-word-pixels : (ws : List ℕ) → length (wordPixels ws) ≡ length ws / 3
 length-word-pixels ws = length-pixels (map wordChannel ws) ∙ ap (λ n. n / 3) (length-map ws wordChannel)
 
@@ -72,13 +75,10 @@ module _ (ws : List ℕ) (p : ℕ) (inside : p < length ws / 3) where
   there : p < length (wordPixels ws)
   there = rw (length-word-pixels ws) inside
 
-  channel-at : (i : ℕ) → getD (map wordChannel ws) i Black ≡ wordChannel (getD ws i 0)
-  channel-at i = ap (λ c. getD (map wordChannel ws) i c) (sym black) ∙ List·getD-map wordChannel ws i 0
-
   pixel-at : getD (wordPixels ws) p (pixelAt ws p) ≡ pixelAt ws p
   pixel-at =
       getD-pixels (map wordChannel ws) p (pixelAt ws p) (rw length-map inside)
-      ∙ rw (channel-at (3 * p), channel-at (3 * p + 1), channel-at (3 * p + 2))
+      ∙ rw (channel-at ws (3 * p), channel-at ws (3 * p + 1), channel-at ws (3 * p + 2))
 
   pub take-pixel : take (p + 1) (wordPixels ws) ≡ take p (wordPixels ws) ++ (pixelAt ws p ∷ [])
   take-pixel = rw (add-one p) (take-suc (wordPixels ws) p (pixelAt ws p) there ∙ rw pixel-at)
