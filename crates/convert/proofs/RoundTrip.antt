@@ -17,7 +17,7 @@ use Rattle.word.specs.Words.{pixels, stripLength, stripOf}
 use Rattle.word.specs.Placing.{firstRefusal, decodedOf, channelsOf}
 use Rattle.strip.specs.Checks.{headerFields, decodedBody, checkStrip}
 use Rattle.strip.specs.Reading.{stripChannels}
-use Rattle.strip.proofs.Limits.{whole}
+use Rattle.strip.proofs.Limits.{whole-strip}
 use Rattle.word.proofs.Decoding.{holds, all-held}
 use Rattle.strip.proofs.RoundTrip.{
   channels-valid,
@@ -140,9 +140,8 @@ converts-by-codes f h xs room accepted =
     }
 
 pub writes-again : WritesAgain
-unfolding checkStrip
 writes-again s accepted =
-    let q = whole Accepted s accepted .1 in
+    let q = whole-strip s accepted in
     let p = page-read s q in
     let same = same-words s q in
     let written = rw (all-held (decodedBody s) (q .channels)) at (page-yields (headerFields s) (stripChannels s) p) in

@@ -1,7 +1,7 @@
 -- Demand 3 of a page, and the promises of the two calls. Assumes nothing.
 use Prim.Native.Nat.{ℕ, _<_}
 use mathlib.Core.Path.{_≡_, refl, sym, subst, _∙_}
-use mathlib.Core.List.{List, [], _∷_, _++_, map}
+use mathlib.Core.List.{List, [], _∷_, _++_}
 use mathlib.Core.Logic.{inl, inr}
 use native.Mathlib.Omega.{arith}
 use lib.IntN.{ℤ}
@@ -27,7 +27,7 @@ use Rattle.tone.proofs.Laws.{reported, absent, reported-range, mean-bound, leve
 use Rattle.page.specs.declared.tally.TallyOrRefusal.{TallyOrRefusal}
 use Rattle.page.specs.declared.tally.TallyOrRefusal.the-variants.{Holds, Refuses}
 use Rattle.page.specs.Tallying.{stripLuminances, stripAverage, tallyUnder, tallyStrip}
-use Rattle.page.specs.Mapping.{levelsOf, levelBytes, stripLevels}
+use Rattle.page.specs.Mapping.{levelsUnder, stripLevels}
 use Rattle.page.specs.Claims.{litCount, MeanHalf, EachThree, LitBound, LevelHalf, BoundsReported, DemandThree}
 use Rattle.page.specs.Claims.{WhereLit, TallyPromise, MapPromise}
 use Rattle.page.proofs.Luminances.{storedLuminance, lit-luminance, lit-count, every-luminance}
@@ -37,7 +37,7 @@ use Rattle.page.proofs.Strips.{strip-key, strip-valid, strip-sum}
 
 module _ (K : ℕ) (key : IsKey K) (a : Stored) (average : IsStoredAverage a) where
   levels-bound : (ps : List Pixel) (rest : List ℕ) → Every IsPixel ps
-      → EachThree (LitBound K a) ps (levelBytes (map (levelsOf K a) ps) ++ rest)
+      → EachThree (LitBound K a) ps (levelsUnder K a ps ++ rest)
   levels-bound [] rest valid = tt
   levels-bound (p ∷ ps) rest valid = (
     (λ lit.

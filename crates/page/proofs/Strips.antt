@@ -1,7 +1,7 @@
 -- What the tally and the levels of an accepted strip rest on. Assumes nothing.
 use Prim.Native.Nat.{ℕ, _*_, _≤_}
 use mathlib.Core.Path.{_≡_, _∙_}
-use mathlib.Core.List.{List, map}
+use mathlib.Core.List.{List}
 use native.Mathlib.Omega.{arith}
 use lib.IntN.{ℤ}
 use lib.ListN.{length, replicate}
@@ -26,7 +26,7 @@ use Rattle.tone.specs.Pixels.{IsPixel}
 use Rattle.tone.specs.Tallies.{sumOf, tallyOf}
 use Rattle.tone.proofs.Laws.{tally-is-sum, sum-fits, sum-has-average}
 use Rattle.page.specs.Tallying.{stripLuminances, stripAverage}
-use Rattle.page.specs.Mapping.{levelsOf, levelBytes, stripLevels}
+use Rattle.page.specs.Mapping.{levelsUnder, stripLevels}
 use Rattle.page.proofs.Luminances.{pixels-valid, every-luminance, luminances-few}
 
 module _ (s : List ℕ) (ok : Whole s) where
@@ -62,5 +62,5 @@ module _ (s : List ℕ) (ok : Whole s) where
   levels-absent e f = rw (e, f, count-pixels s ok)
 
   pub levels-present : {A : ℤ} {a : Stored} → stripAverage s ≡ Present A a
-      → levelBytes (map (levelsOf (headerFields s .key) a) (stripPixels s)) ≡ stripLevels s
+      → levelsUnder (headerFields s .key) a (stripPixels s) ≡ stripLevels s
   levels-present e = rw e

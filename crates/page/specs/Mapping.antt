@@ -29,15 +29,19 @@ levelsFrom (Lit y) K a p = byChannel (mappedLevel reinhard K a y) p
 abbrev pub levelsOf : (K : ℕ) (average : Stored) → Pixel → Levels
 levelsOf K a p = levelsFrom (luminanceOf p) K a p
 
--- the bytes in the order of the channels
+-- level bytes in the order of the channels
 abbrev pub levelBytes : List Levels → List ℕ
 levelBytes [] = []
 levelBytes (l ∷ ls) = l .red ∷ l .green ∷ l .blue ∷ levelBytes ls
 
+-- of pixels under a key and a stored average
+abbrev pub levelsUnder : (K : ℕ) (average : Stored) → List Pixel → List ℕ
+levelsUnder K a ps = levelBytes (map (levelsOf K a) ps)
+
 -- "If N = 0 the page is accepted, the average is reported as absent, all levels are 0."
 abbrev pub pageLevels : Average → (K : ℕ) → List Pixel → List ℕ
 pageLevels Absent K ps = replicate (3 * length ps) 0
-pageLevels (Present A average) K ps = levelBytes (map (levelsOf K average) ps)
+pageLevels (Present A average) K ps = levelsUnder K average ps
 
 -- the level bytes of an accepted strip
 abbrev pub stripLevels : List ℕ → List ℕ

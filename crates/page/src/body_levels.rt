@@ -1,6 +1,5 @@
 // The levels of an accepted strip, pixel by pixel.
 ghost use mathlib.Core.Path.{_≡_};
-ghost use mathlib.Core.List.{map};
 ghost use Prim.Native.Nat.{_+_, _≤_, _<_};
 ghost use lib.ListN.{length, set, replicate};
 ghost use Rattle.refusal.specs.declared.Verdict.{Verdict};
@@ -10,7 +9,7 @@ ghost use Rattle.strip.specs.Reading.{stripPixels};
 ghost use Rattle.tone.specs.Levels.{IsKey, IsStoredAverage};
 ghost use Rattle.tone.specs.Pixels.{IsPixel};
 ghost use Rattle.word.specs.Pixels.{wordPixels};
-ghost use Rattle.page.specs.Mapping.{levelsOf, levelBytes};
+ghost use Rattle.page.specs.Mapping.{levelsOf, levelsUnder};
 use number::channel::Pixel;
 use number::ratio::Stored;
 use tone::level::display;
@@ -65,7 +64,7 @@ fn store_levels(levels: Levels, at: usize, output: &mut [u8])
 // The levels of channel words under a key and an average, into the front of the output.
 fn fill_levels(words: &[u32], key: u64, average: Stored, output: &mut [u8])
     requires { ⌜ IsKey key × IsStoredAverage average × (length (now words) ≤ length (now output)) ⌝ }
-    ensures { λ _. ⌜ now (output .exit) ≡ onto (levelBytes (map (levelsOf key average) (wordPixels (now (words .entry))))) (now (output .entry)) ⌝ }
+    ensures { λ _. ⌜ now (output .exit) ≡ onto (levelsUnder key average (wordPixels (now (words .entry)))) (now (output .entry)) ⌝ }
 {
     let pixels = words.len() / 3;
     let mut p: usize = 0;
@@ -80,7 +79,7 @@ fn fill_levels(words: &[u32], key: u64, average: Stored, output: &mut [u8])
 // The levels of an accepted strip under an average, into the front of the output.
 pub fn body_levels(strip: &[u32], average: Stored, output: &mut [u8])
     requires { ⌜ (checkStrip (now strip) ≡ Verdict.Accepted) × IsStoredAverage average × (channelCount (now strip) ≤ length (now output)) ⌝ }
-    ensures { λ _. ⌜ now (output .exit) ≡ onto (levelBytes (map (levelsOf (headerFields (now (strip .entry)) .key) average) (stripPixels (now (strip .entry))))) (now (output .entry)) ⌝ }
+    ensures { λ _. ⌜ now (output .exit) ≡ onto (levelsUnder (headerFields (now (strip .entry)) .key) average (stripPixels (now (strip .entry)))) (now (output .entry)) ⌝ }
 {
     let end = BODY_START + 3 * pixel_count(strip[0]);
     let key = low_half(strip[1]) as u64;

@@ -2,13 +2,12 @@
 use borrow.Author.Needs.{needs}
 use Prim.Native.Nat.{_-_}
 use mathlib.Core.Path.{_≡_, refl, ap, _∙_}
-use mathlib.Core.List.{map}
 use native.Mathlib.Omega.{arith}
 use lib.ListN.{length}
 use Rattle.strip.specs.Output.{onto}
 use Rattle.strip.proofs.Outputs.{sets-front}
 use Rattle.word.specs.Pixels.{wordPixels}
-use Rattle.page.specs.Mapping.{levelsOf, levelBytes}
+use Rattle.page.specs.Mapping.{levelsOf, levelsUnder}
 use Rattle.page.proofs.Luminances.{pixel-valid}
 use Rattle.page.proofs.Walks.{filling, filling-all, filling-next, filling-done, levels-fit}
 use Rattle.page.proofs.body_levels.fill_levels.Statement.{statement}
@@ -17,7 +16,7 @@ use Rattle.page.proofs.body_levels.fill_levels.Tie as tie
 abbrev Inv-loop : tie.InvT-loop
 Inv-loop words key average output₀ pixels p₀ output p =
     (length output ≡ length output₀)
-    × (filling (levelsOf key average) words p output ≡ onto (levelBytes (map (levelsOf key average) (wordPixels words))) output₀)
+    × (filling (levelsOf key average) words p output ≡ onto (levelsUnder key average (wordPixels words)) output₀)
 
 abbrev μ-loop : tie.MeasureT-loop
 μ-loop words key average output₀ pixels p₀ output p = pixels - p
@@ -25,9 +24,9 @@ abbrev μ-loop : tie.MeasureT-loop
 loop-holds : tie.Need-loop-holds Inv-loop μ-loop
 loop-holds c =
     let s = c .before .before in
-    let f = levelsOf (s .args .key) (s .args .average) in
     let ws = s .args .words .now in
-    (refl, filling-all f ws _ ∙ sets-front (levelBytes (map f (wordPixels ws))) _ (levels-fit f ws (s .pre .2)))
+    let levels = levelsUnder (s .args .key) (s .args .average) (wordPixels ws) in
+    (refl, filling-all _ ws _ ∙ sets-front levels _ (levels-fit _ ws (s .pre .2)))
 
 loop-again : tie.Need-loop-again Inv-loop μ-loop
 loop-again c =
