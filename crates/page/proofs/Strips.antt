@@ -1,10 +1,10 @@
 -- What the tally and the levels of an accepted strip rest on. Assumes nothing.
 use Prim.Native.Nat.{ℕ, _*_, _≤_}
 use mathlib.Core.Path.{_≡_, _∙_}
-use mathlib.Core.List.{List}
+use mathlib.Core.List.{List, map}
 use native.Mathlib.Omega.{arith}
 use lib.IntN.{ℤ}
-use lib.ListN.{length, replicate}
+use lib.ListN.{length, replicate, length-map, length-replicate}
 use mir.Syntax.{w64}
 use mir.Val.{toZ, ofZ}
 use mir.Facts.{toZ-ofZ}
@@ -26,7 +26,8 @@ use Rattle.tone.specs.Pixels.{IsPixel}
 use Rattle.tone.specs.Tallies.{sumOf, tallyOf}
 use Rattle.tone.proofs.Laws.{tally-is-sum, sum-fits, sum-has-average}
 use Rattle.page.specs.Tallying.{stripLuminances, stripAverage}
-use Rattle.page.specs.Mapping.{levelsUnder, stripLevels}
+use Rattle.page.specs.Mapping.{levelsOf, levelsUnder, pageLevels, stripLevels}
+use Rattle.page.proofs.Walks.{length-bytes}
 use Rattle.page.proofs.Luminances.{pixels-valid, every-luminance, luminances-few}
 
 module _ (s : List ℕ) (ok : Whole s) where
@@ -64,3 +65,12 @@ module _ (s : List ℕ) (ok : Whole s) where
   pub levels-present : {A : ℤ} {a : Stored} → stripAverage s ≡ Present A a
       → levelsUnder (headerFields s .key) a (stripPixels s) ≡ stripLevels s
   levels-present e = rw e
+
+  pub length-levels : length (stripLevels s) ≡ 3 * pixels (headerFields s)
+  length-levels = go (stripAverage s) ∙ rw (count-pixels s ok)
+    where
+      go : (a : Average) → length (pageLevels a (headerFields s .key) (stripPixels s)) ≡ 3 * length (stripPixels s)
+      go Absent = length-replicate (3 * length (stripPixels s)) 0
+      go (Present A average) =
+          let f = levelsOf (headerFields s .key) average in
+          length-bytes (map f (stripPixels s)) ∙ rw (length-map (stripPixels s) f)

@@ -62,7 +62,7 @@ three t j l ls =
 unfoldable pub filling : (Pixel → Levels) → List ℕ → (p : ℕ) → List ℕ → List ℕ
 filling f ws p t = sets t (3 * p) (levelBytes (map f (drop p (wordPixels ws))))
 
-length-bytes : (ls : List Levels) → length (levelBytes ls) ≡ 3 * length ls
+pub length-bytes : (ls : List Levels) → length (levelBytes ls) ≡ 3 * length ls
 length-bytes [] = refl
 length-bytes (l ∷ ls) = let e = length-bytes ls in omega arith
 

@@ -5,10 +5,11 @@ use mathlib.Core.List.{List}
 use mathlib.Core.Bool.{true}
 use native.Mathlib.Nat.{mul-le-mul-left, mul-suc}
 use native.Mathlib.Omega.{arith}
-use borrow.Author.Tests.{eqb-true, leb-true, ltb-true}
+use borrow.Author.Tests.{eqb-true, leb-true, ltb-true, le-leb}
 use lib.ListN.{length}
 use Rattle.refusal.specs.declared.Verdict.{Verdict}
-use Rattle.refusal.specs.declared.Verdict.the-variants.{Accepted}
+use Rattle.refusal.specs.declared.Verdict.the-variants.{Accepted, Refused}
+use Rattle.refusal.specs.Verdicts.{require, andThen}
 use Rattle.refusal.proofs.Laws.{require-passed, and-passed, and-met}
 use Rattle.word.specs.Words.{endIndex, pixels, sizeFits, keyFits, sizeWord, keyWord, endWord}
 use Rattle.word.specs.Placing.{firstRefusal}
@@ -96,6 +97,15 @@ output-limits s room e =
 pub output-strip : (s : List ℕ) (room : ℕ) → checkOutput s room ≡ Accepted → checkStrip s ≡ Accepted
 unfolding checkOutput
 output-strip s room e = strip-accepted _ s e
+
+-- where every strip of its length has room, the output adds nothing to the checks
+pub room-enough : (s : List ℕ) (room : ℕ) → (length s ≡ declaredLength s → channelCount s ≤ room) → checkOutput s room ≡ checkStrip s
+unfolding checkOutput checkStrip checkWith andThen require
+room-enough s room enough = go (checkHead s) refl
+  where
+    go : (v : Verdict) → checkHead s ≡ v → checkOutput s room ≡ checkStrip s
+    go Accepted e = rw (e, le-leb _ _ (enough (headed s e .long)))
+    go (Refused r i) e = rw e
 
 pub record Inside (s : List ℕ) (y : ℕ) : Type 0 where
   pub strip : Whole s

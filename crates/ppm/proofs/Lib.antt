@@ -1,0 +1,3 @@
+pub mod Endian
+pub mod Texts
+pub mod Printing

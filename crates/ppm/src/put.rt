@@ -1,0 +1,50 @@
+// Bytes put into an output, from an index on. Each call answers the index behind them.
+ghost use Prim.Native.Nat.{_+_, _≤_};
+ghost use mathlib.Core.Path.{_≡_};
+ghost use lib.ListN.{length};
+ghost use lib.Seq.{sets};
+ghost use Rattle.strip.specs.Output.{onto};
+ghost use Rattle.ppm.specs.Text.{decimal, twoNumbers};
+
+pub fn put(bytes: &[u8], at: usize, output: &mut [u8]) -> usize
+    requires { ⌜ at + length (now bytes) ≤ length (now output) ⌝ }
+    ensures content { λ _. ⌜ now (output .exit) ≡ sets (now (output .entry)) at (now (bytes .entry)) ⌝ }
+    ensures end { λ r. ⌜ r ≡ at + length (now (bytes .entry)) ⌝ }
+{
+    let mut i: usize = 0;
+    while i < bytes.len() {
+        output[at + i] = bytes[i];
+        i += 1;
+    }
+    at + bytes.len()
+}
+
+// A number in decimal digits.
+pub fn put_decimal(n: u64, at: usize, output: &mut [u8]) -> usize
+    requires { ⌜ at + 20 ≤ length (now output) ⌝ }
+    ensures content { λ _. ⌜ now (output .exit) ≡ sets (now (output .entry)) at (decimal n) ⌝ }
+    ensures end { λ r. ⌜ r ≡ at + length (decimal n) ⌝ }
+{
+    let mut digits = [0u8; 20];
+    let count = io::decimal(n, &mut digits);
+    put(&digits[..count], at, output)
+}
+
+// Two numbers with a space between them, a text before and a text behind, from the output's front on.
+pub fn put_numbers(
+    before: &[u8],
+    first: u64,
+    second: u64,
+    behind: &[u8],
+    output: &mut [u8; 50],
+) -> usize
+    requires { ⌜ length (now before) + length (now behind) ≤ 9 ⌝ }
+    ensures count { λ r. ⌜ r ≡ length (twoNumbers (now (before .entry)) first second (now (behind .entry))) ⌝ }
+    ensures content { λ _. ⌜ now (output .exit) ≡ onto (twoNumbers (now (before .entry)) first second (now (behind .entry))) (now (output .entry)) ⌝ }
+{
+    let text = put(before, 0, output);
+    let digits = put_decimal(first, text, output);
+    let space = put(b" ", digits, output);
+    let more = put_decimal(second, space, output);
+    put(behind, more, output)
+}
