@@ -1,0 +1,30 @@
+-- What any run of a page reader answers. Assumes nothing.
+use Prim.Native.Nat.{ℕ, zero, suc, _-_}
+use mathlib.Core.Path.{_≡_}
+use mathlib.Core.List.{List, [], _∷_, _++_, map}
+use lib.ListN.{length, take, replicate}
+use denote.Ref.{RefT, now}
+use Rattle.number.specs.declared.channel.Pixel.{Pixel as PixelType}
+use Rattle.refusal.specs.declared.Verdict.{Verdict}
+use Rattle.refusal.specs.declared.Verdict.the-variants.{Accepted, Refused}
+use Rattle.strip.specs.Checks.{checkStrip}
+use Rattle.strip.specs.Reading.{stripPixels}
+use Rattle.reader.specs.declared.Step.{Step}
+use Rattle.reader.specs.declared.Step.the-variants.{Pixel, PageOver, Refuses}
+use Rattle.reader.specs.declared.PageReader.{PageReader}
+use Rattle.reader.specs.Steps.{openedOf, stepOf, movedOf}
+
+-- the answers of n steps, each by the reader that the one before it left
+abbrev pub answersOf : (n : ℕ) → PageReader → List Step
+answersOf zero r = []
+answersOf (suc n) r = stepOf r ∷ answersOf n (movedOf r)
+
+-- "any run of it answers as the list of the pixels, then 'page over', and stays there" ..
+-- "a reader over a refused strip tells that number and place at every step"
+abbrev pub answersUnder : Verdict → (n : ℕ) → List PixelType → List Step
+answersUnder Accepted n ps = take n (map Pixel ps) ++ replicate (n - length ps) PageOver
+answersUnder (Refused r i) n ps = replicate n (Refuses r i)
+
+-- Proved as `every-run` in proofs/Runs.antt.
+abbrev pub EveryRun : Type 0
+EveryRun = (strip : RefT (List ℕ)) (n : ℕ) → answersOf n (openedOf strip) ≡ answersUnder (checkStrip (now strip)) n (stripPixels (now strip))

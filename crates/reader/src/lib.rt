@@ -1,0 +1,44 @@
+// The page reader: it keeps a lent strip and walks it pixel by pixel. The functions over the struct are thin; the work is done on a plain
+// slice and a position, in `steps`.
+mod steps;
+
+ghost use mathlib.Core.Path.{_≡_};
+ghost use Rattle.reader.specs.Steps.{openedOf, stepOf, movedOf};
+use crate::steps::position_after;
+use crate::steps::start_of;
+use crate::steps::step_at;
+use number::channel::Pixel;
+use refusal::Refusal;
+
+// What a step answers: the next pixel, that the page is over, or the strip's refusal with the index where it was found.
+pub enum Step {
+    Pixel(Pixel),
+    PageOver,
+    Refuses(Refusal, usize),
+}
+
+// A strip, and the index of the next pixel's red word; 0, where no pixel begins, over a refused strip. Only the calls below make one.
+pub struct PageReader<'a> {
+    strip: &'a [u32],
+    position: usize,
+}
+
+// A reader before the strip's first pixel. It checks the strip, once.
+pub fn open<'a>(strip: &'a [u32]) -> PageReader<'a>
+    ensures { λ r. ⌜ r ≡ openedOf (strip .entry) ⌝ }
+{
+    PageReader {
+        strip,
+        position: start_of(strip),
+    }
+}
+
+// One step: the answer, and the reader moved on.
+pub fn next<'s, 'a>(reader: &'s mut PageReader<'a>) -> Step
+    ensures { λ r. ⌜ (r ≡ stepOf (now (reader .entry))) × (now (reader .exit) ≡ movedOf (now (reader .entry))) ⌝ }
+{
+    let strip = reader.strip;
+    let position = reader.position;
+    reader.position = position_after(strip, position);
+    step_at(strip, position)
+}

@@ -1,0 +1,56 @@
+// A reader's start and steps, on its strip and its position.
+ghost use mathlib.Core.Path.{_≡_};
+ghost use Rattle.reader.specs.Steps.{startOf, pixelBegins, stepAt, positionAfter};
+use crate::Step;
+use refusal::Verdict;
+use strip::check::check;
+use word::body::BODY_START;
+use word::body::pixel_in;
+
+// Where the reader of a strip starts.
+pub fn start_of(strip: &[u32]) -> usize
+    ensures { λ r. ⌜ r ≡ startOf (now (strip .entry)) ⌝ }
+{
+    match check(strip) {
+        Verdict::Accepted => BODY_START,
+        Verdict::Refused(_, _) => 0,
+    }
+}
+
+// Whether the three words of a pixel stand at this position, before the end word of a strip of so many words.
+fn pixel_begins(length: usize, position: usize) -> bool
+    ensures { λ r. ⌜ r ≡ pixelBegins length position ⌝ }
+{
+    length > 3 && position < length - 3
+}
+
+// The answer at a position.
+pub fn step_at(strip: &[u32], position: usize) -> Step
+    ensures { λ r. ⌜ r ≡ stepAt (now (strip .entry)) position ⌝ }
+{
+    if position == 0 {
+        return match check(strip) {
+            Verdict::Accepted => Step::PageOver,
+            Verdict::Refused(refusal, i) => Step::Refuses(refusal, i),
+        };
+    }
+    if pixel_begins(strip.len(), position) {
+        Step::Pixel(pixel_in(strip[position], strip[position + 1], strip[position + 2]))
+    } else {
+        Step::PageOver
+    }
+}
+
+// The position after a step: past the pixel that was told, else the same.
+pub fn position_after(strip: &[u32], position: usize) -> usize
+    ensures { λ r. ⌜ r ≡ positionAfter (now (strip .entry)) position ⌝ }
+{
+    if position == 0 {
+        return 0;
+    }
+    if pixel_begins(strip.len(), position) {
+        position + 3
+    } else {
+        position
+    }
+}
