@@ -27,4 +27,6 @@ answersUnder (Refused r i) n ps = replicate n (Refuses r i)
 
 -- Proved as `every-run` in proofs/Runs.antt.
 abbrev pub EveryRun : Type 0
-EveryRun = (strip : RefT (List ℕ)) (n : ℕ) → answersOf n (openedOf strip) ≡ answersUnder (checkStrip (now strip)) n (stripPixels (now strip))
+EveryRun =
+    (strip : RefT (List ℕ)) (n : ℕ)
+    → answersOf n (openedOf strip) ≡ answersUnder (checkStrip (now strip)) n (stripPixels (now strip))
