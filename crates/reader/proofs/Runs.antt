@@ -1,12 +1,13 @@
 -- Any run of a page reader answers as the list of the pixels, then 'page over', and stays there. Assumes nothing.
 use Prim.Native.Nat.{ℕ, zero, suc, _+_, _*_, _/_, _≤_, _<_}
 use mathlib.Core.Path.{_≡_, refl, sym, ap, _∙_}
-use mathlib.Core.List.{List}
+use mathlib.Core.List.{List, _∷_, _++_, map}
 use native.Mathlib.Nat.{zero-sub, sub-zero, suc-sub-suc}
 use native.Mathlib.Omega.{arith}
-use lib.ListN.{length, getD, drop, replicate, length-drop, drop-of-length-le}
-use lib.Seq.{length-take-le, take-nil, getD-take, getD-drop}
+use lib.ListN.{length, getD, take, drop, replicate, drop-of-length-le}
+use lib.Seq.{take-nil, getD-take, getD-drop}
 use denote.Ref.{RefT, now}
+use Rattle.number.specs.declared.channel.Pixel.{Pixel as PixelType}
 use Rattle.refusal.specs.declared.Verdict.{Verdict}
 use Rattle.refusal.specs.declared.Verdict.the-variants.{Accepted, Refused}
 use Rattle.word.specs.Words.{pixels}
@@ -16,11 +17,20 @@ use Rattle.strip.specs.Checks.{headerFields, bodyPart, checkStrip}
 use Rattle.strip.specs.Reading.{stripPixels}
 use Rattle.strip.proofs.Limits.{Whole, whole-strip}
 use Rattle.strip.proofs.Bodies.{pixels-in}
+use Rattle.strip.proofs.RoundTrip.{count-pixels}
 use Rattle.reader.specs.declared.Step.{Step}
+use Rattle.reader.specs.declared.Step.the-variants.{Pixel, PageOver}
 use Rattle.reader.specs.declared.PageReader.{PageReader}
 use Rattle.reader.specs.Steps.{startUnder, pixelFrom, stepUnder, stepAt, positionAfter}
 use Rattle.reader.specs.Claims.{answersOf, answersUnder, EveryRun}
 use Rattle.reader.proofs.Cases.{step-checked, after-checked, step-pixel, after-pixel, step-over, after-over}
+
+not-0 : (k : ℕ) → 2 + 3 * k ≡ 0 → ⊥
+not-0 k e = omega arith
+
+-- the first pixel is the first answer
+first-answer : (n : ℕ) (p : PixelType) (ps : List PixelType) → answersUnder Accepted (suc n) (p ∷ ps) ≡ Pixel p ∷ answersUnder Accepted n ps
+first-answer n p ps = ap (λ m. Pixel p ∷ take n (map Pixel ps) ++ replicate m PageOver) (suc-sub-suc n (length ps))
 
 module _ (strip : RefT (List ℕ)) where
   abbrev s : List ℕ
@@ -44,10 +54,8 @@ module _ (strip : RefT (List ℕ)) where
     abbrev ws : List ℕ
     ws = bodyPart s
 
-    words-long : length ws ≡ 3 * count
-    words-long =
-        let left : 3 * count ≤ length (drop 2 s) = rw (length-drop 2 s, ok .head .long) (omega arith) in
-        length-take-le (3 * count) (drop 2 s) left
+    thirds : length ws / 3 ≡ count
+    thirds = sym (length-word-pixels ws) ∙ ap length (sym (pixels-in s (ok .channels))) ∙ count-pixels s ok
 
     word-in : (i : ℕ) → i < 3 * count → getD s (2 + i) 0 ≡ getD ws i 0
     word-in i h = sym (getD-take (3 * count) (drop 2 s) i 0 h ∙ getD-drop 2 s i 0)
@@ -62,17 +70,17 @@ module _ (strip : RefT (List ℕ)) where
     answers-from : (m k n : ℕ) → k + m ≡ count → answersOf n (reader (2 + 3 * k)) ≡ answersUnder Accepted n (drop k (wordPixels ws))
     answers-from zero k n e =
         let over : length s ≤ 2 + 3 * k + 3 = omega (arith, ok .head .long) in
-        let none = drop-of-length-le (wordPixels ws) {i = k} (rw (length-word-pixels ws, words-long) (omega arith)) in
-        same-answers _ (step-over s _ (λ z. omega arith) over) (after-over s _ (λ z. omega arith) over) n
+        let none = drop-of-length-le (wordPixels ws) {i = k} (rw (length-word-pixels ws, thirds) (omega arith)) in
+        same-answers _ (step-over s _ (not-0 k) over) (after-over s _ (not-0 k) over) n
         ∙ rw (none, take-nil n, sub-zero n)
     answers-from (suc m) k zero e = rw zero-sub
     answers-from (suc m) k (suc n) e =
         let inside : 2 + 3 * k + 3 < length s = omega (arith, ok .head .long) in
         let further : 2 + 3 * k + 3 ≡ 2 + 3 * (k + 1) = omega arith in
-        let there : k < length ws / 3 = rw words-long (omega arith) in
-        rw (step-pixel s _ (λ z. omega arith) inside, pixel-in k (omega arith), drop-pixel ws k there)
-        (rw (after-pixel s _ (λ z. omega arith) inside, further, answers-from m (k + 1) n (omega arith))
-        (rw (suc-sub-suc n (length (drop (k + 1) (wordPixels ws))))))
+        let there : k < length ws / 3 = rw thirds (omega arith) in
+        rw (step-pixel s _ (not-0 k) inside, pixel-in k (omega arith), drop-pixel ws k there)
+        (rw (after-pixel s _ (not-0 k) inside, further, answers-from m (k + 1) n (omega arith))
+        (sym (first-answer n (pixelAt ws k) (drop (k + 1) (wordPixels ws)))))
 
   -- ---- a reader of any strip
 
