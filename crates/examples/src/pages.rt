@@ -1,0 +1,154 @@
+// Examples of whole pages, converted from halves.
+use crate::print::number;
+use crate::print::pair;
+use crate::print::refused;
+use crate::print::signed;
+use crate::print::text;
+use convert::half::convert_half;
+use page::map::map;
+use page::tally::TallyOrRefusal;
+use page::tally::tally;
+use refusal::Verdict;
+use tone::average::Average;
+use tone::luminance::Luminance;
+use tone::luminance::pixel_luminance;
+use word::body::BODY_START;
+use word::body::pixel_in;
+use word::header::Header;
+
+// A page of one row.
+pub fn header(width: u64, key: u64) -> Header {
+    Header {
+        width,
+        height: 1,
+        key,
+    }
+}
+
+// The average of a strip, absent where the strip is refused.
+fn average(strip: &[u32]) -> Average {
+    match tally(strip) {
+        TallyOrRefusal::Holds(_, average) => average,
+        TallyOrRefusal::Refuses(_, _) => Average::Absent,
+    }
+}
+
+// A.
+fn steps(average: Average) {
+    match average {
+        Average::Present(steps, _) => {
+            text(b"A = ");
+            signed(steps);
+        },
+        Average::Absent => text(b"absent"),
+    }
+}
+
+fn stored(average: Average) {
+    match average {
+        Average::Present(_, stored) => {
+            text(b", average ");
+            pair(stored.exponent as u64, stored.mantissa as u64);
+        },
+        Average::Absent => text(b", absent"),
+    }
+}
+
+fn level(byte: u8) {
+    text(b" ");
+    number(byte as u64);
+}
+
+// The levels of a strip of one or two pixels.
+fn levels(strip: &[u32]) {
+    let mut bytes = [0u8; 6];
+    match map(strip, &mut bytes) {
+        Verdict::Accepted => {
+            text(b"levels");
+            level(bytes[0]);
+            level(bytes[1]);
+            level(bytes[2]);
+            if strip.len() > 6 {
+                level(bytes[3]);
+                level(bytes[4]);
+                level(bytes[5]);
+            }
+        },
+        Verdict::Refused(refusal, i) => refused(refusal, i),
+    }
+}
+
+// The luminance of the first pixel.
+fn luminance(strip: &[u32; 6]) {
+    let pixel = pixel_in(
+        strip[BODY_START],
+        strip[BODY_START + 1],
+        strip[BODY_START + 2],
+    );
+    match pixel_luminance(pixel) {
+        Luminance::Lit(stored) => pair(stored.exponent as u64, stored.mantissa as u64),
+        Luminance::Unlit => text(b"unlit"),
+    }
+}
+
+pub fn one_grey() {
+    let mut strip = [0u32; 6];
+    convert_half(&[0x3C00, 0x3C00, 0x3C00], header(1, 180), &mut strip);
+    let average = average(&strip);
+    text(b"one grey 3c00, K 180: ");
+    steps(average);
+    stored(average);
+    text(b", ");
+    levels(&strip);
+    text(b"\n");
+}
+
+pub fn three_greys() {
+    let mut strip = [0u32; 12];
+    convert_half(
+        &[
+            0x3C00,
+            0x3C00,
+            0x3C00,
+            0x3C00,
+            0x3C00,
+            0x3C00,
+            0x3800,
+            0x3800,
+            0x3800,
+        ],
+        header(3, 180),
+        &mut strip,
+    );
+    text(b"greys 3c00, 3c00, 3800, K 180: ");
+    steps(average(&strip));
+    text(b"\n");
+}
+
+pub fn grey_and_black() {
+    let mut strip = [0u32; 9];
+    convert_half(
+        &[0x7BFF, 0x7BFF, 0x7BFF, 0, 0, 0],
+        header(2, 180),
+        &mut strip,
+    );
+    text(b"grey 7bff and a black pixel, K 180: ");
+    steps(average(&strip));
+    text(b", ");
+    levels(&strip);
+    text(b"\n");
+}
+
+pub fn red_alone() {
+    let mut strip = [0u32; 6];
+    convert_half(&[0x3C00, 0, 0], header(1, 180), &mut strip);
+    text(b"red 3c00 alone: luminance ");
+    luminance(&strip);
+    text(b", K 180: ");
+    levels(&strip);
+    let mut brighter = [0u32; 6];
+    convert_half(&[0x3C00, 0, 0], header(1, 1000), &mut brighter);
+    text(b", K 1000: ");
+    levels(&brighter);
+    text(b"\n");
+}
