@@ -2,7 +2,7 @@
 use Prim.Native.Nat.{ℕ, zero, suc, _*_, _/_, _%_, _≤_, _<_}
 use mathlib.Core.Path.{_≡_, refl, sym, ap, _∙_, subst}
 use mathlib.Core.Bool.{Bool, true, false}
-use mathlib.Core.List.{List}
+use mathlib.Core.List.{List, _++_}
 use native.Mathlib.Omega.{arith}
 use borrow.Author.Tests.{eqb-true, eqb-false, eq-eqb, ne-eqb, lt-ltb, le-ltb}
 use lib.Dec.{eqb}
@@ -23,7 +23,8 @@ use Rattle.page.proofs.Strips.{length-levels}
 use Rattle.ppm.specs.declared.answer.Answer.{Answer}
 use Rattle.ppm.specs.Text.{ascii}
 use Rattle.ppm.specs.Words.{littleEndian, checkBytes}
-use Rattle.ppm.specs.Answers.{Printed, textAlone, frontOf, refusal, pictureOf, printedUnder, printedOf, checkInput, printedFor, countsOf}
+use Rattle.ppm.specs.Answers.{Printed, textAlone, frontOf, printedRefusal, pictureOf, printedUnder, printedOf}
+use Rattle.ppm.specs.Answers.{checkInput, printedFor, bytesOf, countsOf}
 use Rattle.ppm.proofs.Endian.{length-words, uneven, too-many, words-fit}
 
 -- what an answer leaves in the two outputs t and u, which held t₀ and u₀
@@ -46,11 +47,11 @@ module _ (s t₀ u₀ : List ℕ) (short : length s ≤ 16384) {v : Verdict} (to
   checked : v ≡ checkStrip s
   checked = told ∙ room-enough s 16380 (λ long. omega (arith, short, long))
 
-  pub laid-refused : {r : Refusal} {i n : ℕ} {t u : List ℕ} → v ≡ Refused r i → n ≡ length (refusal (reportOf v) .text)
-      → t ≡ onto (refusal (reportOf v) .text) t₀ → u ≡ after v (stripLevels s) u₀ → Laid (printedOf s) (counts n 0) t₀ t u₀ u
+  pub laid-refused : {r : Refusal} {i n : ℕ} {t u : List ℕ} → v ≡ Refused r i → n ≡ length (printedRefusal (reportOf v) .text)
+      → t ≡ onto (printedRefusal (reportOf v) .text) t₀ → u ≡ after v (stripLevels s) u₀ → Laid (printedOf s) (counts n 0) t₀ t u₀ u
   laid-refused {n = n} {t = t} {u = u} e count text samples =
-      let p : refusal (reportOf v) ≡ printedOf s = rw (← checked, e) in
-      subst (λ q. Laid q (counts n 0) t₀ t u₀ u) p (laid-alone (refusal (reportOf v) .text) t₀ u₀ count text (samples ∙ rw e))
+      let p : printedRefusal (reportOf v) ≡ printedOf s = rw (← checked, e) in
+      subst (λ q. Laid q (counts n 0) t₀ t u₀ u) p (laid-alone (printedRefusal (reportOf v) .text) t₀ u₀ count text (samples ∙ rw e))
 
   module _ {w h : ℕ} (width : w ≡ headerFields s .width) (height : h ≡ headerFields s .height) where
     pub laid-picture : {m n : ℕ} {t u : List ℕ} → v ≡ Accepted → m ≡ length (frontOf w h) → t ≡ onto (frontOf w h) t₀
@@ -90,10 +91,10 @@ module _ (bs : List ℕ) where
     unfolding checkInput require
     input-even h = rw (eq-eqb _ _ h)
 
-    pub printed-uneven : {r : Refusal} {i : ℕ} → v ≡ Refused r i → refusal (reportOf v) ≡ printedFor bs
+    pub printed-uneven : {r : Refusal} {i : ℕ} → v ≡ Refused r i → printedRefusal (reportOf v) ≡ printedFor bs
     printed-uneven refused = go (eqb (length bs % 4) 0) refl ∙ printed-short
       where
-        go : (b : Bool) → eqb (length bs % 4) 0 ≡ b → refusal (reportOf v) ≡ printedUnder (checkInput bs) (littleEndian bs)
+        go : (b : Bool) → eqb (length bs % 4) 0 ≡ b → printedRefusal (reportOf v) ≡ printedUnder (checkInput bs) (littleEndian bs)
         go true e =
             let fits = words-fit bs 16384 (eqb-true _ _ e) (omega (arith, short)) in
             let clash : suc zero ≡ zero = cc in
@@ -114,17 +115,27 @@ module _ (bs : List ℕ) where
       pub strip-stored : (ws old : List ℕ) → ws ≡ after v (littleEndian bs) old → take (length bs / 4) ws ≡ littleEndian bs
       strip-stored ws old stored = rw (stored, ok) (take-at (littleEndian bs) _ _ (length-words bs))
 
--- ---- the counts of an answer, as lending the front of an output asks for them
+-- ---- what the caller has of an answer
 
-counted : (txt old : List ℕ) {n : ℕ} {t : List ℕ} → n ≡ length txt → t ≡ onto txt old → Counts n t
-counted txt old {n} {t} count stored =
-    let front : take n t ≡ txt = rw (stored, count) (take-append-seam txt (drop (length txt) old)) in
-    let long = length-append txt (drop (length txt) old) in
-    (rw stored (omega (arith, count, long)), rw front count)
+module _ (txt old : List ℕ) {n : ℕ} {t : List ℕ} (count : n ≡ length txt) (stored : t ≡ onto txt old) where
+  front : take n t ≡ txt
+  front = rw (stored, count) (take-append-seam txt (drop (length txt) old))
 
-pub answered : (p : Printed) (t₀ u₀ : List ℕ) {r : Answer} {t u : List ℕ} → Laid p r t₀ t u₀ u
-    → (r ≡ countsOf p) × ((t ≡ onto (p .text) t₀) × ((u ≡ onto (p .samples) u₀) × (Counts (r .text) t × Counts (r .samples) u)))
-answered p t₀ u₀ l = (
-  l .0,
-  (l .1 .0, (l .1 .1, (counted (p .text) t₀ (ap (λ r. r .text) (l .0)) (l .1 .0), counted (p .samples) u₀ (ap (λ r. r .samples) (l .0)) (l .1 .1)))),
-)
+  -- as lending the front asks
+  counted : Counts n t
+  counted = (rw stored (omega (arith, count, length-append txt (drop (length txt) old))), rw front count)
+
+abbrev pub Answered : Printed → Answer → (t₀ t u₀ u : List ℕ) → Type 0
+Answered p r t₀ t u₀ u =
+    (r ≡ countsOf p)
+    × ((t ≡ onto (p .text) t₀)
+    × ((u ≡ onto (p .samples) u₀)
+    × ((take (r .text) t ++ take (r .samples) u ≡ bytesOf p)
+    × (Counts (r .text) t × Counts (r .samples) u))))
+
+pub answered : (p : Printed) (t₀ u₀ : List ℕ) {r : Answer} {t u : List ℕ} → Laid p r t₀ t u₀ u → Answered p r t₀ t u₀ u
+answered p t₀ u₀ {r} {t} {u} (e, (text, samples)) =
+    let m = ap (λ a. a .text) e in
+    let n = ap (λ a. a .samples) e in
+    let bytes : take (r .text) t ++ take (r .samples) u ≡ bytesOf p = rw (front (p .text) t₀ m text, front (p .samples) u₀ n samples) in
+    (e, (text, (samples, (bytes, (counted (p .text) t₀ m text, counted (p .samples) u₀ n samples)))))

@@ -32,8 +32,8 @@ pub record Printed : Type 0 where
 abbrev pub textAlone : List ℕ → Printed
 textAlone t = record { text = t; samples = [] }
 
-abbrev pub refusal : Outcome → Printed
-refusal o = textAlone (refusedText (o .number) (o .place))
+abbrev pub printedRefusal : Outcome → Printed
+printedRefusal o = textAlone (refusedText (o .number) (o .place))
 
 -- the picture of a strip: "P6 ..", "then the levels"
 abbrev pub pictureOf : List ℕ → Printed
@@ -41,7 +41,7 @@ pictureOf s = record { text = frontOf (headerFields s .width) (headerFields s .h
 
 abbrev pub printedUnder : Verdict → List ℕ → Printed
 printedUnder Accepted s = pictureOf s
-printedUnder (Refused r i) s = refusal (outcomeOf r i)
+printedUnder (Refused r i) s = printedRefusal (outcomeOf r i)
 
 -- the answer to a strip
 abbrev pub printedOf : List ℕ → Printed

@@ -1,12 +1,13 @@
 // The answer of the picture program.
 ghost use Prim.Native.Nat.{_≤_};
 ghost use mathlib.Core.Path.{_≡_};
-ghost use lib.ListN.{length};
+ghost use mathlib.Core.List.{_++_};
+ghost use lib.ListN.{length, take};
 ghost use Rattle.io.specs.Counts.{Counts};
 ghost use Rattle.refusal.specs.Verdicts.{reportOf};
 ghost use Rattle.strip.specs.Output.{onto, after};
 ghost use Rattle.ppm.specs.Words.{littleEndian, checkBytes};
-ghost use Rattle.ppm.specs.Answers.{refusal, printedOf, printedFor, countsOf};
+ghost use Rattle.ppm.specs.Answers.{printedRefusal, printedOf, printedFor, bytesOf, countsOf};
 use crate::put::put;
 use crate::text::front;
 use crate::text::refused;
@@ -26,8 +27,8 @@ pub struct Answer {
 
 // The line of a refused verdict.
 fn refused_verdict(verdict: Verdict, text: &mut [u8; 50]) -> usize
-    ensures count { λ r. ⌜ r ≡ length (refusal (reportOf verdict) .text) ⌝ }
-    ensures content { λ _. ⌜ now (text .exit) ≡ onto (refusal (reportOf verdict) .text) (now (text .entry)) ⌝ }
+    ensures count { λ r. ⌜ r ≡ length (printedRefusal (reportOf verdict) .text) ⌝ }
+    ensures content { λ _. ⌜ now (text .exit) ≡ onto (printedRefusal (reportOf verdict) .text) (now (text .entry)) ⌝ }
 {
     let told = report(verdict);
     refused(told.number, told.place as u64, text)
@@ -67,6 +68,7 @@ pub fn answer_to(
     ensures counts { λ r. ⌜ r ≡ countsOf (printedFor (now (input .entry))) ⌝ }
     ensures text { λ _. ⌜ now (text .exit) ≡ onto (printedFor (now (input .entry)) .text) (now (text .entry)) ⌝ }
     ensures samples { λ _. ⌜ now (samples .exit) ≡ onto (printedFor (now (input .entry)) .samples) (now (samples .entry)) ⌝ }
+    ensures bytes { λ r. ⌜ take (r .text) (now (text .exit)) ++ take (r .samples) (now (samples .exit)) ≡ bytesOf (printedFor (now (input .entry))) ⌝ }
     ensures lent { λ r. ⌜ Counts (r .text) (now (text .exit)) × Counts (r .samples) (now (samples .exit)) ⌝ }
 {
     if input.len() > 65536 {

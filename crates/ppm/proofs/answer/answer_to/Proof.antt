@@ -1,7 +1,7 @@
 -- `ppm::answer::answer_to` meets its contract. Assumes nothing.
 use borrow.Author.Needs.{needs}
 use Prim.Native.Nat.{_/_}
-use mathlib.Core.Path.{_≡_, refl, sym, ap, _∙_, subst}
+use mathlib.Core.Path.{_≡_, refl, sym, ap, _∙_}
 use native.Mathlib.Omega.{arith}
 use lib.ListN.{length, take}
 use denote.Ref.{now}
@@ -10,9 +10,9 @@ use Rattle.strip.specs.Output.{after}
 use Rattle.strip.proofs.Outputs.{sets-front}
 use Rattle.ppm.specs.Text.{ascii}
 use Rattle.ppm.specs.Words.{littleEndian, checkBytes}
-use Rattle.ppm.specs.Answers.{textAlone, refusal, printedFor}
+use Rattle.ppm.specs.Answers.{textAlone, printedRefusal, printedFor}
 use Rattle.ppm.proofs.Endian.{length-words}
-use Rattle.ppm.proofs.Printing.{Laid, counts, laid-alone, printed-long, words-long, printed-uneven, printed-strip, strip-stored, answered}
+use Rattle.ppm.proofs.Printing.{laid-alone, printed-long, words-long, printed-uneven, printed-strip, strip-stored, answered}
 use Rattle.ppm.proofs.answer.answer_to.Statement.{statement}
 use Rattle.ppm.proofs.answer.answer_to.Tie as tie
 
@@ -45,9 +45,9 @@ returns-2 c =
     let a = s .args in
     let v = w .store-words .result in
     let r = c .refused-verdict .ensures in
-    let laid = laid-alone (refusal (reportOf v) .text) (now (a .text)) (now (a .samples)) (r .0) (r .1) refl in
+    let laid = laid-alone (printedRefusal (reportOf v) .text) (now (a .text)) (now (a .samples)) (r .0) (r .1) refl in
     let uneven = printed-uneven (now (a .input)) (omega arith) (told w) (c .before .before .enum-told2 .given .1) in
-    (kept w, rw (← uneven) (answered (refusal (reportOf v)) (now (a .text)) (now (a .samples)) laid))
+    (kept w, rw (← uneven) (answered (printedRefusal (reportOf v)) (now (a .text)) (now (a .samples)) laid))
 
 -- the strip, once its words are stored
 strip : (c : tie.After-enum-told)

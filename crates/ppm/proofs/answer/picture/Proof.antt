@@ -23,8 +23,8 @@ returns c =
     let s = m .before .before .before in
     let a = s .args in
     let r = c .refused-verdict .ensures in
-    laid-refused (now (a .strip)) (now (a .text)) (now (a .samples)) (s .pre) (told m) (c .before .before .enum-told2 .given .1) (r .0) (r .1)
-    (m .map .ensures .1 .0)
+    laid-refused (now (a .strip)) (now (a .text)) (now (a .samples)) (s .pre) (told m)
+    (c .before .before .enum-told2 .given .1) (r .0) (r .1) (m .map .ensures .1 .0)
 
 -- what holds once the strip is accepted
 limits : (c : tie.After-enum-told) → Fits (now (c .before .before .before .before .before .args .strip)) 16380

@@ -10,7 +10,8 @@ use Rattle.ppm.proofs.put.put.Statement.{statement}
 use Rattle.ppm.proofs.put.put.Tie as tie
 
 abbrev Inv-loop : tie.InvT-loop
-Inv-loop bytes at output₀ i₀ output i = (length output ≡ length output₀) × (storing bytes i (at + i) output ≡ sets output₀ at bytes)
+Inv-loop bytes at output₀ i₀ output i =
+    (length output ≡ length output₀) × (storing bytes i (at + i) output ≡ sets output₀ at bytes)
 
 abbrev μ-loop : tie.MeasureT-loop
 μ-loop bytes at output₀ i₀ output i = length bytes - i

@@ -1,6 +1,6 @@
 -- `ppm::words::store_words` meets its contract: a refusal comes before the first store. Assumes nothing.
 use borrow.Author.Needs.{needs}
-use mathlib.Core.Path.{_≡_, refl, sym}
+use mathlib.Core.Path.{refl, sym}
 use native.Mathlib.Omega.{arith}
 use Rattle.ppm.proofs.Endian.{uneven, too-many, words-fit}
 use Rattle.ppm.proofs.words.store_words.Statement.{statement}
