@@ -1,11 +1,13 @@
 -- Any run of a page reader answers as the list of the pixels, then 'page over', and stays there. Assumes nothing.
-use Prim.Native.Nat.{ℕ, zero, suc, _+_, _*_, _/_, _≤_, _<_}
+use Prim.Native.Nat.{ℕ, zero, suc, _+_, _*_, _/_, _<_}
 use mathlib.Core.Path.{_≡_, refl, sym, ap, _∙_}
 use mathlib.Core.List.{List, _∷_, _++_, map}
 use native.Mathlib.Nat.{zero-sub, sub-zero, suc-sub-suc}
 use native.Mathlib.Omega.{arith}
+use borrow.Author.Tests.{lt-ltb, le-ltb}
 use lib.ListN.{length, getD, take, drop, replicate, drop-of-length-le}
 use lib.Seq.{take-nil, getD-take, getD-drop}
+use lib.Dec.{ltb}
 use denote.Ref.{RefT, now}
 use Rattle.number.specs.declared.channel.Pixel.{Pixel as PixelType}
 use Rattle.refusal.specs.declared.Verdict.{Verdict}
@@ -21,12 +23,12 @@ use Rattle.strip.proofs.RoundTrip.{count-pixels}
 use Rattle.reader.specs.declared.Step.{Step}
 use Rattle.reader.specs.declared.Step.the-variants.{Pixel, PageOver}
 use Rattle.reader.specs.declared.PageReader.{PageReader}
-use Rattle.reader.specs.Steps.{startUnder, pixelFrom, stepUnder, stepAt, positionAfter}
+use Rattle.reader.specs.Steps.{startUnder, pixelBegins, pixelFrom, stepUnder, stepAt, positionAfter}
 use Rattle.reader.specs.Claims.{answersOf, answersUnder, EveryRun}
-use Rattle.reader.proofs.Cases.{step-checked, after-checked, step-pixel, after-pixel, step-over, after-over}
+use Rattle.reader.proofs.Cases.{step-checked, step-pixel, after-pixel, step-over, after-stays}
 
-not-0 : (k : ℕ) → 2 + 3 * k ≡ 0 → ⊥
-not-0 k e = omega arith
+begins-at : (k n : ℕ) → pixelBegins n (2 + 3 * k) ≡ ltb (2 + 3 * k + 3) n
+begins-at k n = rw (lt-ltb 0 (2 + 3 * k) (omega arith))
 
 -- the first pixel is the first answer
 first-answer : (n : ℕ) (p : PixelType) (ps : List PixelType) → answersUnder Accepted (suc n) (p ∷ ps) ≡ Pixel p ∷ answersUnder Accepted n ps
@@ -69,17 +71,16 @@ module _ (strip : RefT (List ℕ)) where
     -- before pixel k, the first of m that are left
     answers-from : (m k n : ℕ) → k + m ≡ count → answersOf n (reader (2 + 3 * k)) ≡ answersUnder Accepted n (drop k (wordPixels ws))
     answers-from zero k n e =
-        let over : length s ≤ 2 + 3 * k + 3 = omega (arith, ok .head .long) in
+        let over = begins-at k (length s) ∙ le-ltb (2 + 3 * k + 3) (length s) (omega (arith, ok .head .long)) in
         let none = drop-of-length-le (wordPixels ws) {i = k} (rw (length-word-pixels ws, thirds) (omega arith)) in
-        same-answers _ (step-over s _ (not-0 k) over) (after-over s _ (not-0 k) over) n
-        ∙ rw (none, take-nil n, sub-zero n)
+        same-answers _ (step-over s _ over (λ z. omega arith)) (after-stays s _ over) n ∙ rw (none, take-nil n, sub-zero n)
     answers-from (suc m) k zero e = rw zero-sub
     answers-from (suc m) k (suc n) e =
-        let inside : 2 + 3 * k + 3 < length s = omega (arith, ok .head .long) in
+        let begins = begins-at k (length s) ∙ lt-ltb (2 + 3 * k + 3) (length s) (omega (arith, ok .head .long)) in
         let further : 2 + 3 * k + 3 ≡ 2 + 3 * (k + 1) = omega arith in
         let there : k < length ws / 3 = rw thirds (omega arith) in
-        rw (step-pixel s _ (not-0 k) inside, pixel-in k (omega arith), drop-pixel ws k there)
-        (rw (after-pixel s _ (not-0 k) inside, further, answers-from m (k + 1) n (omega arith))
+        rw (step-pixel s _ begins, pixel-in k (omega arith), drop-pixel ws k there)
+        (rw (after-pixel s _ begins, further, answers-from m (k + 1) n (omega arith))
         (sym (first-answer n (pixelAt ws k) (drop (k + 1) (wordPixels ws)))))
 
   -- ---- a reader of any strip
@@ -88,7 +89,7 @@ module _ (strip : RefT (List ℕ)) where
   answers-under Accepted e n =
       let ok = whole-strip s e in
       answers-from ok count 0 n (omega arith) ∙ rw (pixels-in s (ok .channels))
-  answers-under (Refused r i) e n = same-answers 0 (step-checked s 0 refl ∙ ap stepUnder e) (after-checked s 0 refl) n
+  answers-under (Refused r i) e n = same-answers 0 (step-checked s 0 refl ∙ ap stepUnder e) (after-stays s 0 refl) n
 
 pub every-run : EveryRun
 every-run strip n = answers-under strip (checkStrip (now strip)) refl n

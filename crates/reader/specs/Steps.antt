@@ -1,7 +1,7 @@
 -- What a page reader is, and what a step makes of it. Assumes nothing.
 -- "A page reader keeps the lent strip and walks it pixel by pixel"
 use Prim.Native.Nat.{ℕ, _+_}
-use mathlib.Core.Bool.{Bool, cond}
+use mathlib.Core.Bool.{Bool, cond, _&&_}
 use mathlib.Core.List.{List}
 use lib.ListN.{length}
 use lib.Dec.{ltb, eqb}
@@ -25,9 +25,9 @@ startUnder (Refused r i) s = 0
 abbrev pub startOf : List ℕ → ℕ
 startOf s = startUnder (checkStrip s) s
 
--- the three words of a pixel, before the end word
+-- 0 stands for none; the three words of a pixel stand before the end word
 abbrev pub pixelBegins : (length position : ℕ) → Bool
-pixelBegins n p = ltb (p + 3) n
+pixelBegins n p = ltb 0 p && ltb (p + 3) n
 
 abbrev pub pixelFrom : List ℕ → (position : ℕ) → PixelType
 pixelFrom s p = pixelOf (wordChannel (wordAt s p)) (wordChannel (wordAt s (p + 1))) (wordChannel (wordAt s (p + 2)))
@@ -40,10 +40,10 @@ stepUnder Accepted = PageOver
 stepUnder (Refused r i) = Refuses r i
 
 unfoldable pub stepAt : List ℕ → (position : ℕ) → Step
-stepAt s p = cond (eqb p 0) (stepUnder (checkStrip s)) (cond (pixelBegins (length s) p) (Pixel (pixelFrom s p)) PageOver)
+stepAt s p = cond (pixelBegins (length s) p) (Pixel (pixelFrom s p)) (cond (eqb p 0) (stepUnder (checkStrip s)) PageOver)
 
 unfoldable pub positionAfter : List ℕ → (position : ℕ) → ℕ
-positionAfter s p = cond (eqb p 0) 0 (cond (pixelBegins (length s) p) (p + 3) p)
+positionAfter s p = cond (pixelBegins (length s) p) (p + 3) p
 
 -- ---- on readers
 

@@ -17,25 +17,25 @@ pub fn start_of(strip: &[u32]) -> usize
     }
 }
 
-// Whether the three words of a pixel stand at this position, before the end word of a strip of so many words.
+// Whether a pixel begins at this position of a strip of so many words: 0 stands for none, and its three words stand before the end word.
 fn pixel_begins(length: usize, position: usize) -> bool
     ensures { λ r. ⌜ r ≡ pixelBegins length position ⌝ }
 {
-    length > 3 && position < length - 3
+    position > 0 && (length > 3 && position < length - 3)
 }
 
 // The answer at a position.
 pub fn step_at(strip: &[u32], position: usize) -> Step
     ensures { λ r. ⌜ r ≡ stepAt (now (strip .entry)) position ⌝ }
 {
+    if pixel_begins(strip.len(), position) {
+        return Step::Pixel(pixel_in(strip[position], strip[position + 1], strip[position + 2]));
+    }
     if position == 0 {
-        return match check(strip) {
+        match check(strip) {
             Verdict::Accepted => Step::PageOver,
             Verdict::Refused(refusal, i) => Step::Refuses(refusal, i),
-        };
-    }
-    if pixel_begins(strip.len(), position) {
-        Step::Pixel(pixel_in(strip[position], strip[position + 1], strip[position + 2]))
+        }
     } else {
         Step::PageOver
     }
@@ -45,9 +45,6 @@ pub fn step_at(strip: &[u32], position: usize) -> Step
 pub fn position_after(strip: &[u32], position: usize) -> usize
     ensures { λ r. ⌜ r ≡ positionAfter (now (strip .entry)) position ⌝ }
 {
-    if position == 0 {
-        return 0;
-    }
     if pixel_begins(strip.len(), position) {
         position + 3
     } else {
