@@ -1,6 +1,6 @@
 # Two pictures of one page, side by side, as a PNG. Run from the top folder:
 #
-#     python3 samples/before_after.py samples/relief.strip relief.ppm docs/relief.png
+#     python3 samples/before_after.py samples/relief.strip target/relief.ppm docs/relief.png
 #
 # Left, before: each channel of the strip clipped at 1.0. Right, after: the levels of the P6 picture that the
 # picture program made of the same strip. Neither half has a gamma. Only Python's standard library is used.

@@ -33,7 +33,7 @@ fn average(strip: &[u32]) -> Average {
     }
 }
 
-// A.
+// The A of an average.
 fn steps(average: Average) {
     match average {
         Average::Present(steps, _) => {
@@ -44,6 +44,7 @@ fn steps(average: Average) {
     }
 }
 
+// Its stored number.
 fn stored(average: Average) {
     match average {
         Average::Present(_, stored) => {

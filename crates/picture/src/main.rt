@@ -2,7 +2,7 @@
 // is `ppm`'s.
 use ppm::answer::answer_to;
 
-// The end of the input is a read of no bytes; a read that fails is told, and so is a write.
+// The end of the input is a read of no bytes. A read that fails is told, and so is a write that fails.
 fn main() {
     let mut input = [0u8; 65537];
     let size = io::read_full(0, &mut input);

@@ -7,8 +7,8 @@ use borrow.Author.Tests.{eq-eqb, ne-eqb, le-leb, lt-leb}
 use lib.ListN.{length, getD}
 use Rattle.refusal.specs.declared.Refusal.the-variants.{WrongLength, SmallOutput}
 use Rattle.refusal.specs.declared.Verdict.the-variants.{Accepted, Refused}
-use Rattle.refusal.specs.Verdicts.{require}
-use Rattle.ppm.specs.Words.{wordOf, littleEndian, checkBytes}
+use Rattle.refusal.specs.Verdicts.{require, andThen}
+use Rattle.ppm.specs.Words.{wordOfBytes, littleEndian, checkCount, checkBytes}
 
 pub length-words : (bs : List ℕ) → length (littleEndian bs) ≡ length bs / 4
 length-words [] = omega arith
@@ -19,7 +19,7 @@ length-words (a ∷ b ∷ c ∷ d ∷ bs) = let e = length-words bs in omega ari
 
 -- word i
 abbrev pub wordIn : List ℕ → (i : ℕ) → ℕ
-wordIn bs i = wordOf (getD bs (4 * i) 0) (getD bs (4 * i + 1) 0) (getD bs (4 * i + 2) 0) (getD bs (4 * i + 3) 0)
+wordIn bs i = wordOfBytes (getD bs (4 * i) 0) (getD bs (4 * i + 1) 0) (getD bs (4 * i + 2) 0) (getD bs (4 * i + 3) 0)
 
 pub getD-words : (bs : List ℕ) (i : ℕ) → i < length bs / 4 → getD (littleEndian bs) i 0 ≡ wordIn bs i
 getD-words [] i h = absurd (omega arith)
@@ -36,16 +36,25 @@ getD-words (a ∷ b ∷ c ∷ d ∷ bs) (suc i) h =
 
 -- ---- the check of bytes, one law for each answer
 
-module _ (bs : List ℕ) (room : ℕ) where
-  pub uneven : (length bs % 4 ≡ 0 → ⊥) → checkBytes bs room ≡ Refused WrongLength 0
-  unfolding checkBytes require
-  uneven h = rw (ne-eqb _ _ h)
+module _ (bs : List ℕ) where
+  pub count-uneven : (length bs % 4 ≡ 0 → ⊥) → checkCount bs ≡ Refused WrongLength 0
+  unfolding checkCount require
+  count-uneven h = rw (ne-eqb _ _ h)
 
-  module _ (even : length bs % 4 ≡ 0) where
-    pub too-many : room < length bs / 4 → checkBytes bs room ≡ Refused SmallOutput 0
-    unfolding checkBytes require
-    too-many h = rw (eq-eqb _ _ even, lt-leb _ _ h)
+  pub count-even : length bs % 4 ≡ 0 → checkCount bs ≡ Accepted
+  unfolding checkCount require
+  count-even h = rw (eq-eqb _ _ h)
 
-    pub words-fit : length bs / 4 ≤ room → checkBytes bs room ≡ Accepted
-    unfolding checkBytes require
-    words-fit h = rw (eq-eqb _ _ even, le-leb _ _ h)
+  module _ (room : ℕ) where
+    pub uneven : (length bs % 4 ≡ 0 → ⊥) → checkBytes bs room ≡ Refused WrongLength 0
+    unfolding checkBytes andThen
+    uneven h = rw (count-uneven h)
+
+    module _ (even : length bs % 4 ≡ 0) where
+      pub too-many : room < length bs / 4 → checkBytes bs room ≡ Refused SmallOutput 0
+      unfolding checkBytes andThen require
+      too-many h = rw (count-even even, lt-leb _ _ h)
+
+      pub words-fit : length bs / 4 ≤ room → checkBytes bs room ≡ Accepted
+      unfolding checkBytes andThen require
+      words-fit h = rw (count-even even, le-leb _ _ h)

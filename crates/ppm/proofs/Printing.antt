@@ -4,7 +4,7 @@ use mathlib.Core.Path.{_≡_, refl, sym, ap, _∙_, subst}
 use mathlib.Core.Bool.{Bool, true, false}
 use mathlib.Core.List.{List, _++_}
 use native.Mathlib.Omega.{arith}
-use borrow.Author.Tests.{eqb-true, eqb-false, eq-eqb, ne-eqb, lt-ltb, le-ltb}
+use borrow.Author.Tests.{eqb-true, eqb-false, lt-ltb, le-ltb}
 use lib.Dec.{eqb}
 use lib.ListN.{length, take, drop, length-append}
 use lib.Seq.{take-at, take-append-seam}
@@ -13,7 +13,7 @@ use Rattle.refusal.specs.declared.Refusal.{Refusal}
 use Rattle.refusal.specs.declared.Refusal.the-variants.{WrongLength}
 use Rattle.refusal.specs.declared.Verdict.{Verdict}
 use Rattle.refusal.specs.declared.Verdict.the-variants.{Accepted, Refused}
-use Rattle.refusal.specs.Verdicts.{reportOf, require}
+use Rattle.refusal.specs.Verdicts.{reportOf, andThen}
 use Rattle.word.specs.Words.{pixels}
 use Rattle.strip.specs.Checks.{headerFields, checkStrip, checkOutput}
 use Rattle.strip.specs.Output.{onto, after}
@@ -25,7 +25,7 @@ use Rattle.ppm.specs.Text.{ascii}
 use Rattle.ppm.specs.Words.{littleEndian, checkBytes}
 use Rattle.ppm.specs.Answers.{Printed, textAlone, frontOf, printedRefusal, pictureOf, printedUnder, printedOf}
 use Rattle.ppm.specs.Answers.{checkInput, printedFor, bytesOf, countsOf}
-use Rattle.ppm.proofs.Endian.{length-words, uneven, too-many, words-fit}
+use Rattle.ppm.proofs.Endian.{length-words, count-uneven, count-even, uneven, too-many, words-fit}
 
 -- what an answer leaves in the two outputs t and u, which held t₀ and u₀
 abbrev pub Laid : Printed → Answer → (t₀ t u₀ u : List ℕ) → Type 0
@@ -84,12 +84,12 @@ module _ (bs : List ℕ) where
     printed-short = rw (le-ltb _ _ short)
 
     input-uneven : (length bs % 4 ≡ 0 → ⊥) → checkInput bs ≡ Refused WrongLength 0
-    unfolding checkInput require
-    input-uneven h = rw (ne-eqb _ _ h)
+    unfolding checkInput andThen
+    input-uneven h = rw (count-uneven bs h)
 
     input-even : length bs % 4 ≡ 0 → checkInput bs ≡ checkStrip (littleEndian bs)
-    unfolding checkInput require
-    input-even h = rw (eq-eqb _ _ h)
+    unfolding checkInput andThen
+    input-even h = rw (count-even bs h)
 
     pub printed-uneven : {r : Refusal} {i : ℕ} → v ≡ Refused r i → printedRefusal (reportOf v) ≡ printedFor bs
     printed-uneven refused = go (eqb (length bs % 4) 0) refl ∙ printed-short

@@ -1,20 +1,19 @@
 -- What the picture program prints. Assumes nothing.
-use Prim.Native.Nat.{ℕ, _%_}
+use Prim.Native.Nat.{ℕ}
 use mathlib.Core.Bool.{cond}
 use mathlib.Core.List.{List, [], _++_}
 use lib.ListN.{length}
-use lib.Dec.{ltb, eqb}
-use Rattle.refusal.specs.declared.Refusal.the-variants.{WrongLength}
+use lib.Dec.{ltb}
 use Rattle.refusal.specs.declared.Outcome.{Outcome}
 use Rattle.refusal.specs.declared.Verdict.{Verdict}
 use Rattle.refusal.specs.declared.Verdict.the-variants.{Accepted, Refused}
 use Rattle.refusal.specs.Refusals.{outcomeOf}
-use Rattle.refusal.specs.Verdicts.{require}
+use Rattle.refusal.specs.Verdicts.{andThen}
 use Rattle.strip.specs.Checks.{headerFields, checkStrip}
 use Rattle.page.specs.Mapping.{stripLevels}
 use Rattle.ppm.specs.declared.answer.Answer.{Answer}
 use Rattle.ppm.specs.Text.{ascii, twoNumbers}
-use Rattle.ppm.specs.Words.{littleEndian}
+use Rattle.ppm.specs.Words.{littleEndian, checkCount}
 
 -- "P6, line feed, width, space, height, line feed, 255, line feed"
 abbrev pub frontOf : (width height : ℕ) → List ℕ
@@ -47,9 +46,8 @@ printedUnder (Refused r i) s = printedRefusal (outcomeOf r i)
 abbrev pub printedOf : List ℕ → Printed
 printedOf s = printedUnder (checkStrip s) s
 
--- "If the byte count is no multiple of four, the answer is refusal 3, place 0, before any word is looked at."
 unfoldable pub checkInput : List ℕ → Verdict
-checkInput bs = require (eqb (length bs % 4) 0) WrongLength 0 (checkStrip (littleEndian bs))
+checkInput bs = andThen (checkCount bs) (checkStrip (littleEndian bs))
 
 -- "It reads a strip of at most 65,536 bytes from standard input. More bytes: it prints 'long' and a line feed."
 unfoldable pub printedFor : List ℕ → Printed

@@ -42,9 +42,9 @@ pub fn put_numbers(
     ensures count { λ r. ⌜ r ≡ length (twoNumbers (now (before .entry)) first second (now (behind .entry))) ⌝ }
     ensures content { λ _. ⌜ now (output .exit) ≡ onto (twoNumbers (now (before .entry)) first second (now (behind .entry))) (now (output .entry)) ⌝ }
 {
-    let text = put(before, 0, output);
-    let digits = put_decimal(first, text, output);
-    let space = put(b" ", digits, output);
-    let more = put_decimal(second, space, output);
-    put(behind, more, output)
+    let first_at = put(before, 0, output);
+    let space_at = put_decimal(first, first_at, output);
+    let second_at = put(b" ", space_at, output);
+    let behind_at = put_decimal(second, second_at, output);
+    put(behind, behind_at, output)
 }

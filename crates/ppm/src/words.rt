@@ -3,13 +3,13 @@ ghost use Prim.Native.Nat.{_≤_, _/_};
 ghost use mathlib.Core.Path.{_≡_};
 ghost use lib.ListN.{length};
 ghost use Rattle.strip.specs.Output.{onto, after};
-ghost use Rattle.ppm.specs.Words.{wordOf, littleEndian, checkBytes};
+ghost use Rattle.ppm.specs.Words.{wordOfBytes, littleEndian, checkBytes};
 use refusal::Refusal;
 use refusal::Verdict;
 
 // The word of four bytes, the lowest first.
 fn word_of(a: u8, b: u8, c: u8, d: u8) -> u32
-    ensures { λ r. ⌜ r ≡ wordOf a b c d ⌝ }
+    ensures { λ r. ⌜ r ≡ wordOfBytes a b c d ⌝ }
 {
     a as u32 + 256 * b as u32 + 65536 * c as u32 + 16777216 * d as u32
 }

@@ -25,8 +25,10 @@ abbrev pub answersUnder : Verdict → (n : ℕ) → List PixelType → List Step
 answersUnder Accepted n ps = take n (map Pixel ps) ++ replicate (n - length ps) PageOver
 answersUnder (Refused r i) n ps = replicate n (Refuses r i)
 
--- Proved as `every-run` in proofs/Runs.antt.
+-- a reader that answers so for a strip of these words, whatever the number of steps
+abbrev pub AnswersFor : List ℕ → PageReader → Type 0
+AnswersFor s r = (n : ℕ) → answersOf n r ≡ answersUnder (checkStrip s) n (stripPixels s)
+
+-- Proved as `every-run` in proofs/Runs.antt, and a clause of `open`.
 abbrev pub EveryRun : Type 0
-EveryRun =
-    (strip : RefT (List ℕ)) (n : ℕ)
-    → answersOf n (openedOf strip) ≡ answersUnder (checkStrip (now strip)) n (stripPixels (now strip))
+EveryRun = (strip : RefT (List ℕ)) → AnswersFor (now strip) (openedOf strip)

@@ -34,7 +34,7 @@ pixelFrom s p = pixelOf (wordChannel (wordAt s p)) (wordChannel (wordAt s (p + 1
 
 -- ---- a step
 
--- "Row and reader take only an accepted strip and check it themselves"
+-- "Row and reader take only an accepted strip and check it themselves"; no reader of an accepted strip comes to position 0
 abbrev pub stepUnder : Verdict → Step
 stepUnder Accepted = PageOver
 stepUnder (Refused r i) = Refuses r i

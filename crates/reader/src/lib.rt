@@ -4,13 +4,15 @@ mod steps;
 
 ghost use mathlib.Core.Path.{_≡_};
 ghost use Rattle.reader.specs.Steps.{openedOf, stepOf, movedOf};
+ghost use Rattle.reader.specs.Claims.{AnswersFor};
 use crate::steps::position_after;
 use crate::steps::start_of;
 use crate::steps::step_at;
 use number::channel::Pixel;
 use refusal::Refusal;
 
-// What a step answers: the next pixel, that the page is over, or the strip's refusal with the index where it was found.
+// What a step answers: the next pixel, that the page is over, or the strip's refusal with the index where it was found, of which
+// `outcome_of` tells number and place.
 pub enum Step {
     Pixel(Pixel),
     PageOver,
@@ -23,9 +25,9 @@ pub struct PageReader<'a> {
     position: usize,
 }
 
-// A reader before the strip's first pixel. It checks the strip, once.
+// A reader before the strip's first pixel. It checks the strip, once; any run of steps from here answers as the list of the pixels.
 pub fn open<'a>(strip: &'a [u32]) -> PageReader<'a>
-    ensures { λ r. ⌜ r ≡ openedOf (strip .entry) ⌝ }
+    ensures { λ r. ⌜ (r ≡ openedOf (strip .entry)) × AnswersFor (now (strip .entry)) r ⌝ }
 {
     PageReader {
         strip,

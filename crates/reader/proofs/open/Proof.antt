@@ -1,7 +1,7 @@
 -- `reader::open` meets its contract: a walk of its MIR, by hand. Assumes nothing.
 -- `start_of`, of which only the contract is known, is called on the strip, and a reader is made of the strip and the result. A `&[u32]`
 -- is Copy: what it owns goes to the callee, into the reader, and to the exit.
-use mathlib.Core.Path.{_≡_, refl, ap}
+use mathlib.Core.Path.{_≡_, refl, sym, ap, subst}
 use Prim.Native.Nat.{ℕ, _<_, _^_}
 use mathlib.Core.List.{List, [], _∷_}
 use lib.ListN.{length}
@@ -40,8 +40,10 @@ use denote.Triple.Call.{calls-at}
 use denote.Triple.Clauses.{ensured, lasts}
 use denote.Triple.Walked.{says, Stays, stay-none-slice, walkOf, goes-none-slice, Walks, ends-at, walked, walk-meets}
 use denote.Exit.{yes}
-use Rattle.reader.specs.Steps.{startOf}
+use Rattle.reader.specs.Steps.{startOf, openedOf}
+use Rattle.reader.specs.Claims.{AnswersFor}
 use Rattle.reader.specs.declared.PageReader.{PageReader}
+use Rattle.reader.proofs.Runs.{every-run}
 use Rattle.reader.proofs.PageReader as T
 use Rattle.reader.proofs.PageReader.Laws as T′
 use Rattle.reader.proofs.steps.start_of as start
@@ -114,12 +116,15 @@ module _ {M : Type 1} (𝓤 : URA M) (H : Heap 𝓤) (A : Atoms 𝓤) (W : Given
     abbrev made : (position : ℕ) → PageReader
     made p = record { strip = s; position = p }
 
+    opened : (p : ℕ) → p ≡ startOf (now s) → made p ≡ openedOf s
+    opened p e = ap made e
+
     exits : (p : ℕ) → p ≡ startOf (now s) → p < 2 ^ 64 → ent 𝓤 (⋆ 𝓤 H A (token ∷ ‵ Own ∷ [])) (Post (T′.lowered (made p)))
     exits p e fits =
         qed W (token ∷ ‵ Own ∷ []) ∵
         suffices ! _
         (ends-at 𝓤 H A opens.ended stayed (opens.clauses 𝓤 H A at-mem run) W ghosts (T′.lowered (made p)) (made p) (tt, tt) (tt, tt)) $
-        says ! (λ i. made (e i)) $ frame ! $ use1 W (‵ Own ⊛ ‵ Own) twice $ split ! $ nothing ! $ move ! (1 ∷ 0 ∷ []) $ fjoin ! $ frame ! $
+        says ! (opened p e, subst (AnswersFor (now s)) (sym (opened p e)) (every-run s)) $ frame ! $ use1 W (‵ Own ⊛ ‵ Own) twice $ split ! $ nothing ! $ move ! (1 ∷ 0 ∷ []) $ fjoin ! $ frame ! $
         -- what the strip owns, with what the position owns, is what the reader owns
         nothing ! $ owned ! usize (Is usize) (uint-makes 𝓤 H A W w64) p _ (refl, fits) $ fjoin ! $ move ! (1 ∷ 0 ∷ []) $ fjoin ! $
         by ! (own-shut 𝓤 H A W (T.the-type α) (T′.the-laws α) (s, (p, tt)))

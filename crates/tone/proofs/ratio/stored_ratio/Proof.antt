@@ -1,3 +1,4 @@
+-- `tone::ratio::stored_ratio` meets its contract. Assumes nothing.
 use borrow.Author.Needs.{needs}
 use Rattle.tone.proofs.ratio.stored_ratio.Statement.{statement}
 use Rattle.tone.proofs.ratio.stored_ratio.Tie as tie
