@@ -57,7 +57,8 @@ fn picture(strip: &[u32], text: &mut [u8; 50], samples: &mut [u8; 16380]) -> Ans
     }
 }
 
-// The answer to the bytes of the input, of which at most 65,537 matter. The strip is laid into the front of the words.
+// The answer to the bytes of the input, of which at most 65,537 matter. The strip is laid into the front of the words. `bytes` says of the
+// clauses before it what a caller prints, text and then samples; `lent` is what lending these two fronts asks.
 pub fn answer_to(
     input: &[u8],
     words: &mut [u32; 16384],
