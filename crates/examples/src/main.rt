@@ -12,12 +12,12 @@ use crate::sources::rgbe;
 use crate::sources::single;
 
 fn main() {
-    half(0x0003);
-    half(0x8000);
-    rgbe(1, 136);
-    rgbe(128, 185);
-    single(0x23000001);
-    single(0x5B800000);
+    half(b"half 0003: ", 0x0003);
+    half(b"half 8000: ", 0x8000);
+    rgbe(b"RGBE byte 1, e 136: ", 1, 136);
+    rgbe(b"RGBE byte 128, e 185: ", 128, 185);
+    single(b"single 23000001: ", 0x23000001);
+    single(b"single 5B800000: ", 0x5B800000);
     one_grey();
     three_greys();
     grey_and_black();

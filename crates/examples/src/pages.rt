@@ -65,7 +65,7 @@ fn levels(strip: &[u32]) {
     let mut bytes = [0u8; 6];
     match map(strip, &mut bytes) {
         Verdict::Accepted => {
-            text(b"levels");
+            text(b", levels");
             level(bytes[0]);
             level(bytes[1]);
             level(bytes[2]);
@@ -96,10 +96,9 @@ pub fn one_grey() {
     let mut strip = [0u32; 6];
     convert_half(&[0x3C00, 0x3C00, 0x3C00], header(1, 180), &mut strip);
     let average = average(&strip);
-    text(b"one grey 3c00, K 180: ");
+    text(b"one grey 3C00, K 180: ");
     steps(average);
     stored(average);
-    text(b", ");
     levels(&strip);
     text(b"\n");
 }
@@ -121,7 +120,7 @@ pub fn three_greys() {
         header(3, 180),
         &mut strip,
     );
-    text(b"greys 3c00, 3c00, 3800, K 180: ");
+    text(b"greys 3C00, 3C00, 3800, K 180: ");
     steps(average(&strip));
     text(b"\n");
 }
@@ -133,9 +132,8 @@ pub fn grey_and_black() {
         header(2, 180),
         &mut strip,
     );
-    text(b"grey 7bff and a black pixel, K 180: ");
+    text(b"grey 7BFF and a black pixel, K 180: ");
     steps(average(&strip));
-    text(b", ");
     levels(&strip);
     text(b"\n");
 }
@@ -143,13 +141,13 @@ pub fn grey_and_black() {
 pub fn red_alone() {
     let mut strip = [0u32; 6];
     convert_half(&[0x3C00, 0, 0], header(1, 180), &mut strip);
-    text(b"red 3c00 alone: luminance ");
+    text(b"red 3C00 alone: luminance ");
     luminance(&strip);
-    text(b", K 180: ");
+    text(b", K 180");
     levels(&strip);
     let mut brighter = [0u32; 6];
     convert_half(&[0x3C00, 0, 0], header(1, 1000), &mut brighter);
-    text(b", K 1000: ");
+    text(b", K 1000");
     levels(&brighter);
     text(b"\n");
 }

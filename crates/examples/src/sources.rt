@@ -1,6 +1,5 @@
-// Examples of one number of a source: a picture of one grey pixel is converted, and its red channel printed.
+// Examples of one number of a source: a picture of one grey pixel is converted, and its red channel printed behind a label.
 use crate::pages::header;
-use crate::print::number;
 use crate::print::pair;
 use crate::print::refused;
 use crate::print::text;
@@ -32,31 +31,23 @@ fn red(verdict: Verdict, strip: &[u32; 6]) {
     text(b"\n");
 }
 
-pub fn half(bits: u16) {
+pub fn half(label: &[u8], bits: u16) {
     let mut strip = [0u32; 6];
     let verdict = convert_half(&[bits, bits, bits], header(1, 180), &mut strip);
-    text(b"half ");
-    io::print_hex(1, bits as u64, 4);
-    text(b": ");
+    text(label);
     red(verdict, &strip);
 }
 
-pub fn single(bits: u32) {
+pub fn single(label: &[u8], bits: u32) {
     let mut strip = [0u32; 6];
     let verdict = convert_single(&[bits, bits, bits], header(1, 180), &mut strip);
-    text(b"single ");
-    io::print_hex(1, bits as u64, 8);
-    text(b": ");
+    text(label);
     red(verdict, &strip);
 }
 
-pub fn rgbe(byte: u8, exponent: u8) {
+pub fn rgbe(label: &[u8], byte: u8, exponent: u8) {
     let mut strip = [0u32; 6];
     let verdict = convert_rgbe(&[byte, byte, byte, exponent], header(1, 180), &mut strip);
-    text(b"RGBE byte ");
-    number(byte as u64);
-    text(b", e ");
-    number(exponent as u64);
-    text(b": ");
+    text(label);
     red(verdict, &strip);
 }
