@@ -28,10 +28,10 @@ use Rattle.ppm.specs.Answers.{checkInput, printedFor, bytesOf, countsOf}
 use Rattle.ppm.proofs.Endian.{length-words, count-uneven, count-even, uneven, too-many, words-fit}
 
 -- what an answer leaves in the two outputs t and u, which held t₀ and u₀
-abbrev pub Laid : Printed → Answer → (t₀ t u₀ u : List ℕ) → Type 0
+abbrev Laid : Printed → Answer → (t₀ t u₀ u : List ℕ) → Type 0
 Laid p r t₀ t u₀ u = (r ≡ countsOf p) × ((t ≡ onto (p .text) t₀) × (u ≡ onto (p .samples) u₀))
 
-abbrev pub counts : (text samples : ℕ) → Answer
+abbrev counts : (text samples : ℕ) → Answer
 counts m n = record { text = m; samples = n }
 
 same-counts : {m m′ n n′ : ℕ} → m ≡ m′ → n ≡ n′ → counts m n ≡ counts m′ n′
@@ -125,7 +125,7 @@ module _ (txt old : List ℕ) {n : ℕ} {t : List ℕ} (count : n ≡ length txt
   counted : Counts n t
   counted = (rw stored (omega (arith, count, length-append txt (drop (length txt) old))), rw front count)
 
-abbrev pub Answered : Printed → Answer → (t₀ t u₀ u : List ℕ) → Type 0
+abbrev Answered : Printed → Answer → (t₀ t u₀ u : List ℕ) → Type 0
 Answered p r t₀ t u₀ u =
     (r ≡ countsOf p)
     × ((t ≡ onto (p .text) t₀)

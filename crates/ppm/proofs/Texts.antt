@@ -21,10 +21,10 @@ sets-append t i [] bs = let e : i + 0 ≡ i = omega arith in rw e
 sets-append t i (l ∷ ls) bs = let e : i + suc (length ls) ≡ suc i + length ls = omega arith in rw e (sets-append _ (suc i) ls bs)
 
 -- bs put into t from i on, up to j, makes u
-abbrev pub Put : (t : List ℕ) (i : ℕ) (bs u : List ℕ) (j : ℕ) → Type 0
+abbrev Put : (t : List ℕ) (i : ℕ) (bs u : List ℕ) (j : ℕ) → Type 0
 Put t i bs u j = (u ≡ sets t i bs) × (j ≡ i + length bs)
 
-pub then : (t : List ℕ) (i : ℕ) (ls bs : List ℕ) {u v : List ℕ} {j k : ℕ} → Put t i ls u j → Put u j bs v k → Put t i (ls ++ bs) v k
+then : (t : List ℕ) (i : ℕ) (ls bs : List ℕ) {u v : List ℕ} {j k : ℕ} → Put t i ls u j → Put u j bs v k → Put t i (ls ++ bs) v k
 then t i ls bs p q = (
   q .0 ∙ rw (p .0, p .1) (sets-append t i ls bs),
   omega (arith, p .1, q .1, length-append ls bs),
@@ -53,7 +53,7 @@ digits-decimal (suc (suc k)) (suc j) n h f =
     let rest : Fewest 10 1 (n / 10) (suc k) = (omega arith, omega (arith, f .1, q), λ more. rw e₀ (omega (arith, low, p))) in
     rw (le-ltb n 10 big, glyph-digit (n % 10) (omega arith), digits-decimal (suc k) j (n / 10) (omega arith) rest)
 
--- 2^64 has twenty
+-- a 64-bit number has at most twenty
 few-digits : (n k : ℕ) → n < 2 ^ 64 → Fewest 10 1 n k → k ≤ 20
 few-digits n k h f = go (leb k 20) refl
   where

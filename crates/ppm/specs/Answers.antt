@@ -34,7 +34,7 @@ textAlone t = record { text = t; samples = [] }
 abbrev pub printedRefusal : Outcome → Printed
 printedRefusal o = textAlone (refusedText (o .number) (o .place))
 
--- the picture of a strip: "P6 ..", "then the levels"
+-- "Else it prints P6, .. then the levels."
 abbrev pub pictureOf : List ℕ → Printed
 pictureOf s = record { text = frontOf (headerFields s .width) (headerFields s .height); samples = stripLevels s }
 
