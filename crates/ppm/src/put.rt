@@ -6,17 +6,12 @@ ghost use lib.Seq.{sets};
 ghost use Rattle.strip.specs.Output.{onto};
 ghost use Rattle.ppm.specs.Text.{decimal, twoNumbers};
 
-pub fn put(bytes: &[u8], at: usize, output: &mut [u8]) -> usize
-    requires { ⌜ at + length (now bytes) ≤ length (now output) ⌝ }
-    ensures content { λ _. ⌜ now (output .exit) ≡ sets (now (output .entry)) at (now (bytes .entry)) ⌝ }
-    ensures end { λ r. ⌜ r ≡ at + length (now (bytes .entry)) ⌝ }
+pub fn put(text: &[u8], at: usize, output: &mut [u8]) -> usize
+    requires { ⌜ at + length (now text) ≤ length (now output) ⌝ }
+    ensures content { λ _. ⌜ now (output .exit) ≡ sets (now (output .entry)) at (now (text .entry)) ⌝ }
+    ensures end { λ r. ⌜ r ≡ at + length (now (text .entry)) ⌝ }
 {
-    let mut i: usize = 0;
-    while i < bytes.len() {
-        output[at + i] = bytes[i];
-        i += 1;
-    }
-    at + bytes.len()
+    at + bytes::copy(text, &mut output[at..])
 }
 
 // A number in decimal digits.

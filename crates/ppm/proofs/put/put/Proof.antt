@@ -1,40 +1,34 @@
--- `ppm::put::put` meets its contract: at each turn the stores that are left give the whole. Assumes nothing.
+-- `ppm::put::put` meets its contract: what is copied into the part from an index on is stored from there. Assumes nothing.
 use borrow.Author.Needs.{needs}
-use Prim.Native.Nat.{_+_, _-_}
-use mathlib.Core.Path.{_≡_, refl}
+use borrow.Rule.Slice.PartMut.{putMid}
+use Prim.Native.Nat.{ℕ, _+_, _-_, _≤_}
+use mathlib.Core.Path.{_≡_, ap}
+use mathlib.Core.List.{List, _++_, append-assoc, append-nil}
 use native.Mathlib.Omega.{arith}
-use lib.ListN.{length}
-use lib.Seq.{sets}
-use Rattle.word.proofs.Walks.{storing, storing-all, storing-next, storing-done}
+use lib.ListN.{length, take, drop, length-drop, drop-of-length-le}
+use lib.Seq.{take-all, take-length, drop-drop, sets, sets-eq}
+use denote.Ref.{now}
 use Rattle.ppm.proofs.put.put.Statement.{statement}
 use Rattle.ppm.proofs.put.put.Tie as tie
 
-abbrev Inv-loop : tie.InvT-loop
-Inv-loop bytes at output₀ i₀ output i =
-    (length output ≡ length output₀) × (storing bytes i (at + i) output ≡ sets output₀ at bytes)
+copied : (at : ℕ) (ts old : List ℕ) {ys : List ℕ} → at + length ts ≤ length old
+    → ys ≡ take (length ts) ts ++ drop (length ts) (take (length old - at) (drop at old))
+    → putMid at (length old - at) old ys ≡ sets old at ts
+copied at ts old fits e =
+    let rest : length (drop at old) ≤ length old - at = rw length-drop (omega arith) in
+    let all = take-all (length old - at) (drop at old) rest in
+    let none = drop-of-length-le (drop at old) rest in
+    rw (e, all, none, append-nil, take-length ts, drop-drop (length ts) at old, sets-eq ts old at fits, append-assoc)
 
-abbrev μ-loop : tie.MeasureT-loop
-μ-loop bytes at output₀ i₀ output i = length bytes - i
-
-loop-holds : tie.Need-loop-holds Inv-loop μ-loop
-loop-holds c =
-    let a = c .args in
-    let e : a .at + 0 ≡ a .at = omega arith in
-    (refl, rw e (storing-all (a .bytes .now) (a .at) (a .output .now)))
-
-loop-again : tie.Need-loop-again Inv-loop μ-loop
-loop-again c =
-    let l = c .before .before in
-    let a = l .before .args in
-    let e : a .at + (l .loop .i + 1) ≡ a .at + l .loop .i + 1 = omega arith in
-    rw e (storing-next (a .bytes .now) _ (a .at + l .loop .i) (l .loop .output) (l .loop .inv) (c .before .loop-test .taken) refl)
-
-returns : tie.Need-returns Inv-loop μ-loop
-returns c = (storing-done _ _ _ _ (c .before .loop .inv) (c .loop-test .left), refl)
+returns : tie.Need-returns
+returns c =
+    let s = c .before .before .before .before .before .before in
+    let a = s .args in
+    let e = c .before .before .copy .ensures in
+    (copied (a .at) (now (a .text)) (now (a .output)) (s .pre) (e .1), ap (λ n. a .at + n) (e .0))
 
 pub put-spec : {M : Type 1} → statement M
 put-spec =
     tie.close
     (tie.spec
-    Inv-loop μ-loop loop-holds (λ c. search needs) (λ c. search needs) (λ c. search needs) (λ c. search needs)
-    (λ c. search needs) loop-again (λ c. search needs) (λ c. search needs) returns)
+    (λ c. search needs) (λ c. search needs) (λ c. search needs) (λ c κs. search needs) (λ c. search needs) (λ c. search needs) returns)
