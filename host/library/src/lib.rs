@@ -1,0 +1,160 @@
+//! Dofnihet for Rust: the proved library's calls with slices and results. The contracts stand in crates/dofnihet/src; this package
+//! lends memory and computes nothing.
+
+pub mod raw;
+
+use std::fmt;
+
+/// Why a call turns its input away, by document 01's list.
+#[derive(Clone, Copy, Debug, PartialEq, Eq)]
+pub struct Refusal {
+    pub number: u64,
+    pub place: u64,
+}
+
+impl Refusal {
+    /// The list's word for the number.
+    pub fn word(&self) -> &'static str {
+        match self.number {
+            1 => "bad size",
+            2 => "bad key",
+            3 => "wrong length",
+            4 => "small tray",
+            5 => "no number",
+            6 => "too bright",
+            7 => "foreign word",
+            8 => "wild channel",
+            20 => "no such row",
+            _ => "unlisted",
+        }
+    }
+}
+
+impl fmt::Display for Refusal {
+    fn fmt(&self, f: &mut fmt::Formatter) -> fmt::Result {
+        write!(f, "refused {} {}", self.number, self.place)
+    }
+}
+
+impl std::error::Error for Refusal {}
+
+#[derive(Clone, Copy, Debug, PartialEq, Eq)]
+pub struct Header {
+    pub width: u64,
+    pub height: u64,
+    pub key: u64,
+}
+
+/// The average of the lit pixels: in steps, 256 to a power of two, and as a stored number.
+#[derive(Clone, Copy, Debug, PartialEq, Eq)]
+pub struct Average {
+    pub steps: i64,
+    pub exponent: u8,
+    pub mantissa: u8,
+}
+
+#[derive(Clone, Copy, Debug, PartialEq, Eq)]
+pub struct Tally {
+    pub lit: u64,
+    pub sum: i64,
+    pub average: Option<Average>,
+}
+
+/// A source picture's elements: left to right, top row first.
+#[derive(Clone, Copy, Debug)]
+pub enum Source<'a> {
+    Rgbe(&'a [u8]),
+    Half(&'a [u16]),
+    Single(&'a [u32]),
+    Stored(&'a [u16]),
+}
+
+/// The number of words of the strip of a page.
+pub fn strip_length(pixels: usize) -> usize {
+    3 * pixels + 3
+}
+
+fn accepted<T>(number: u64, place: u64, answer: T) -> Result<T, Refusal> {
+    if number == 0 {
+        Ok(answer)
+    } else {
+        Err(Refusal { number, place })
+    }
+}
+
+/// Leaves the strip of a source picture in the output's front.
+pub fn convert(source: Source, header: Header, output: &mut [u32]) -> Result<(), Refusal> {
+    let Header { width, height, key } = header;
+    let (to, room) = (output.as_mut_ptr(), output.len());
+    // SAFETY: every slice is live for the call, and `output` is borrowed alone.
+    let outcome = unsafe {
+        match source {
+            Source::Rgbe(s) => raw::dofnihet_convert_rgbe(s.as_ptr(), s.len(), width, height, key, to, room),
+            Source::Half(s) => raw::dofnihet_convert_half(s.as_ptr(), s.len(), width, height, key, to, room),
+            Source::Single(s) => raw::dofnihet_convert_single(s.as_ptr(), s.len(), width, height, key, to, room),
+            Source::Stored(s) => raw::dofnihet_convert_stored(s.as_ptr(), s.len(), width, height, key, to, room),
+        }
+    };
+    accepted(outcome.number, outcome.place, ())
+}
+
+/// Checks a strip.
+pub fn check(strip: &[u32]) -> Result<(), Refusal> {
+    // SAFETY: the slice is live for the call; so in the calls below.
+    let outcome = unsafe { raw::dofnihet_check(strip.as_ptr(), strip.len()) };
+    accepted(outcome.number, outcome.place, ())
+}
+
+/// Leaves the channels of a strip, 16-bit numbers, in the output's front.
+pub fn unpack(strip: &[u32], output: &mut [u16]) -> Result<(), Refusal> {
+    let outcome = unsafe { raw::dofnihet_unpack(strip.as_ptr(), strip.len(), output.as_mut_ptr(), output.len()) };
+    accepted(outcome.number, outcome.place, ())
+}
+
+/// Leaves the levels of a strip, three bytes a pixel, in the output's front.
+pub fn map(strip: &[u32], output: &mut [u8]) -> Result<(), Refusal> {
+    let outcome = unsafe { raw::dofnihet_map(strip.as_ptr(), strip.len(), output.as_mut_ptr(), output.len()) };
+    accepted(outcome.number, outcome.place, ())
+}
+
+/// The header of a strip.
+pub fn header(strip: &[u32]) -> Result<Header, Refusal> {
+    let told = unsafe { raw::dofnihet_header_of(strip.as_ptr(), strip.len()) };
+    let header = Header {
+        width: told.width,
+        height: told.height,
+        key: told.key,
+    };
+    accepted(told.number, told.place, header)
+}
+
+/// The words of row y of a strip.
+pub fn row(strip: &[u32], y: u64) -> Result<&[u32], Refusal> {
+    let told = unsafe { raw::dofnihet_row_of(strip.as_ptr(), strip.len(), y) };
+    let start = told.start as usize;
+    accepted(told.number, told.place, &strip[start..start + told.length as usize])
+}
+
+/// The tally of a strip.
+pub fn tally(strip: &[u32]) -> Result<Tally, Refusal> {
+    let told = unsafe { raw::dofnihet_tally_of(strip.as_ptr(), strip.len()) };
+    let average = Average {
+        steps: told.average,
+        exponent: told.exponent as u8,
+        mantissa: told.mantissa as u8,
+    };
+    let tally = Tally {
+        lit: told.lit,
+        sum: told.sum,
+        average: (told.present == 1).then_some(average),
+    };
+    accepted(told.number, told.place, tally)
+}
+
+/// What stands before the levels in a P6 picture.
+pub fn front(width: u64, height: u64) -> Vec<u8> {
+    let mut text = [0; 50];
+    // SAFETY: the output has the 50 bytes that the call asks for.
+    let count = unsafe { raw::dofnihet_front_of(width, height, text.as_mut_ptr()) };
+    text[..count].to_vec()
+}

@@ -1,0 +1,137 @@
+/* Dofnihet: high-dynamic-range pages stored as strips, tallied, and mapped to 24-bit levels.
+ *
+ * Link with libdofnihet.a, which `rt staticlib dofnihet` writes to target/staticlib/. What each call answers is proved for every input; the
+ * contracts stand in crates/dofnihet/src.
+ *
+ * Every slice is a pointer and the number of its elements. The pointer is never NULL, not even where the number is 0, and is aligned for its
+ * element. The slices of one call must not overlap. Sources and strips are only read; an output is written only where the call accepts, and
+ * then only in its front. No call keeps a pointer, allocates, or changes anything else, so calls on different memory may run at once.
+ *
+ * `number` is 0 where a call accepts; `place` is 0 then. A refusal has a number and a place: the index of the offending element or word for
+ * 5 to 8, else 0.
+ *
+ *     1  bad size        width or height 0 or above 8192, or more than 16777216 pixels
+ *     2  bad key         key 0 or above 1000
+ *     3  wrong length    source or strip not of its exact length
+ *     4  small tray      output shorter than the outcome
+ *     5  no number       NaN or infinity
+ *     6  too bright      channel above 2^56
+ *     7  foreign word    kind, spare bits or end count wrong
+ *     8  wild channel    neither (0,0) nor exponent 72..184 with mantissa 128..255
+ *    20  no such row     row number not below the height
+ *
+ * Later versions add functions, and fields at the end of a struct.
+ */
+#ifndef DOFNIHET_H
+#define DOFNIHET_H
+
+#include <stddef.h>
+#include <stdint.h>
+
+#ifdef __cplusplus
+extern "C" {
+#endif
+
+/* Largest width, height, number of pixels and key. */
+#define DOFNIHET_MAX_SIDE 8192
+#define DOFNIHET_MAX_PIXELS 16777216
+#define DOFNIHET_MAX_KEY 1000
+
+/* Words of the strip of a page. */
+#define DOFNIHET_STRIP_LENGTH(pixels) (3 * (size_t)(pixels) + 3)
+
+typedef struct {
+    uint64_t number;
+    uint64_t place;
+} dofnihet_outcome;
+
+typedef struct {
+    uint64_t number;
+    uint64_t place;
+    uint64_t width;
+    uint64_t height;
+    uint64_t key;
+} dofnihet_header;
+
+typedef struct {
+    uint64_t number;
+    uint64_t place;
+    uint64_t start;
+    uint64_t length;
+} dofnihet_row;
+
+typedef struct {
+    uint64_t number;
+    uint64_t place;
+    uint64_t lit;
+    int64_t sum;
+    uint64_t present;
+    int64_t average;
+    uint64_t exponent;
+    uint64_t mantissa;
+} dofnihet_tally;
+
+/* Converts a picture of RGBE pixels, four bytes R, G, B, e each, left to right, top row first.
+ * The strip, DOFNIHET_STRIP_LENGTH(width * height) words, is left in the output's front.
+ * Refuses with 1, 2, 3, 4, then the first byte that is too bright with 6. */
+dofnihet_outcome dofnihet_convert_rgbe(const uint8_t *source, size_t source_len, uint64_t width, uint64_t height, uint64_t key,
+                                       uint32_t *output, size_t output_len);
+
+/* Converts a picture of IEEE 754 half floats, three bit patterns R, G, B a pixel; zero and negative numbers become black.
+ * The strip, DOFNIHET_STRIP_LENGTH(width * height) words, is left in the output's front.
+ * Refuses with 1, 2, 3, 4, then the first element that is no number with 5. */
+dofnihet_outcome dofnihet_convert_half(const uint16_t *source, size_t source_len, uint64_t width, uint64_t height, uint64_t key,
+                                       uint32_t *output, size_t output_len);
+
+/* Converts a picture of IEEE 754 single floats, three bit patterns R, G, B a pixel; zero, negative and tiny numbers become black.
+ * The strip, DOFNIHET_STRIP_LENGTH(width * height) words, is left in the output's front.
+ * Refuses with 1, 2, 3, 4, then the first element that is no number with 5 or too bright with 6. */
+dofnihet_outcome dofnihet_convert_single(const uint32_t *source, size_t source_len, uint64_t width, uint64_t height, uint64_t key,
+                                         uint32_t *output, size_t output_len);
+
+/* Converts a picture of stored channels, 256 * exponent + mantissa each or 0 for black, three a pixel: what dofnihet_unpack writes.
+ * The strip, DOFNIHET_STRIP_LENGTH(width * height) words, is left in the output's front.
+ * Refuses with 1, 2, 3, 4, then the first element that is no channel with 8. */
+dofnihet_outcome dofnihet_convert_stored(const uint16_t *source, size_t source_len, uint64_t width, uint64_t height, uint64_t key,
+                                         uint32_t *output, size_t output_len);
+
+/* Checks a strip: every other call on a strip makes the same checks itself.
+ * Accepts it, or tells the first fault.
+ * Refuses with 3, 7, 1, 7, 2, 3 of its header and length, then the first word with 7 or 8, the end word last. */
+dofnihet_outcome dofnihet_check(const uint32_t *strip, size_t strip_len);
+
+/* Unpacks the channels of a strip, 256 * exponent + mantissa each or 0 for black, three a pixel.
+ * They are left in the output's front, 3 * width * height elements.
+ * Refuses as dofnihet_check does, with 4 between length and words. */
+dofnihet_outcome dofnihet_unpack(const uint32_t *strip, size_t strip_len, uint16_t *output, size_t output_len);
+
+/* Maps a strip to levels, red, green and blue of each pixel, left to right, top row first.
+ * They are left in the output's front, 3 * width * height bytes; all are 0 where no pixel is lit.
+ * Refuses as dofnihet_check does, with 4 between length and words. */
+dofnihet_outcome dofnihet_map(const uint32_t *strip, size_t strip_len, uint8_t *output, size_t output_len);
+
+/* Reads back width, height and key of a strip.
+ * A refusal has 0 in all three.
+ * Refuses as dofnihet_check does. */
+dofnihet_header dofnihet_header_of(const uint32_t *strip, size_t strip_len);
+
+/* Finds row y of a strip, counted from 0 at the top: `length` words from index `start` of the strip on.
+ * They are its red, green and blue words; a refusal has 0 in both.
+ * Refuses as dofnihet_check does, with 20 between length and words. */
+dofnihet_row dofnihet_row_of(const uint32_t *strip, size_t strip_len, uint64_t y);
+
+/* Tallies a strip: number of lit pixels, sum of their steps, average in steps (256 a power of two) and as stored number.
+ * `present` is 1 where a pixel is lit, else 0 with 0 in average, exponent and mantissa; a refusal has 0 in all six.
+ * Refuses as dofnihet_check does. */
+dofnihet_tally dofnihet_tally_of(const uint32_t *strip, size_t strip_len);
+
+/* Writes what stands before the levels in a Netpbm P6 picture: "P6", width, height, "255".
+ * The output has 50 bytes, enough for any two numbers.
+ * Answers how many bytes of its front are the text's. */
+size_t dofnihet_front_of(uint64_t width, uint64_t height, uint8_t output[50]);
+
+#ifdef __cplusplus
+}
+#endif
+
+#endif
