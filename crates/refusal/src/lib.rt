@@ -16,7 +16,8 @@ pub enum Refusal {
     NoSuchRow,
 }
 
-// What a call reports.
+// What a call reports; C takes it as it is.
+#[repr(C)]
 pub struct Outcome {
     pub number: u64,
     pub place: usize,

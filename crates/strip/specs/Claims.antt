@@ -6,7 +6,8 @@ use lib.ListN.{length}
 use Rattle.refusal.specs.declared.Verdict.the-variants.{Accepted}
 use Rattle.word.specs.Words.{bodyStart, endIndex}
 use Rattle.strip.specs.Checks.{headerFields, checkRow}
-use Rattle.strip.specs.Reading.{Part, rowPart}
+use Rattle.strip.specs.declared.row.Part.{Part}
+use Rattle.strip.specs.Reading.{rowPart}
 
 -- a part that lies among a strip's channel words, none of which is missing
 pub record InBody (s : List ℕ) (p : Part) : Type 0 where
@@ -16,4 +17,4 @@ pub record InBody (s : List ℕ) (p : Part) : Type 0 where
 
 -- Proved as `rows-in-body` in proofs/Limits.antt.
 abbrev pub RowsInBody : Type 0
-RowsInBody = (s : List ℕ) (y : ℕ) → checkRow s y ≡ Accepted → InBody s (rowPart Accepted s y)
+RowsInBody = (s : List ℕ) (y : ℕ) → checkRow s y ≡ Accepted → InBody s (rowPart s y)

@@ -10,6 +10,9 @@ use Rattle.refusal.specs.declared.Verdict.the-variants.{Accepted, Refused}
 use Rattle.word.specs.declared.header.Header.{Header}
 use Rattle.strip.specs.declared.read.HeaderOrRefusal.{HeaderOrRefusal}
 use Rattle.strip.specs.declared.read.HeaderOrRefusal.the-variants.{Holds, Refuses}
+use Rattle.strip.specs.declared.row.Part.{Part}
+use Rattle.strip.specs.declared.row.RowOrRefusal.{RowOrRefusal}
+use Rattle.strip.specs.declared.row.RowOrRefusal.the-variants.{Holds as RowHolds, Refuses as RowRefuses}
 use Rattle.word.specs.Words.{bodyStart}
 use Rattle.word.specs.Placing.{channelsOf}
 use Rattle.word.specs.Pixels.{pixelsOf}
@@ -34,12 +37,7 @@ stripPixels s = pixelsOf (stripChannels s)
 abbrev pub stripCodes : List ℕ → List ℕ
 stripCodes s = map codeOf (stripChannels s)
 
--- a part of a lent row of words: `count` of them from the index `start` on
-pub record Part : Type 0 where
-  pub start : ℕ
-  pub count : ℕ
-
--- the words of a part
+-- the words of a part: `count` of them from the index `start` on
 abbrev pub wordsOf : Part → List ℕ → List ℕ
 wordsOf p s = take (p .count) (drop (p .start) s)
 
@@ -47,11 +45,23 @@ wordsOf p s = take (p .count) (drop (p .start) s)
 abbrev pub pointerTo : Part → (whole : ℕ × ℕ) → ℕ × ℕ
 pointerTo p (block, offset) = (block, p .start * 4 + offset)
 
--- "red word of its first pixel to blue of its last. A refused row is the empty part"
-abbrev pub rowPart : Verdict → List ℕ → (y : ℕ) → Part
-rowPart Accepted s y = record { start = bodyStart (headerFields s) + 3 * (headerFields s .width * y); count = 3 * headerFields s .width }
-rowPart (Refused r i) s y = record { start = 0; count = 0 }
+-- row y of an accepted strip: "red word of its first pixel to blue of its last"
+abbrev pub rowPart : List ℕ → (y : ℕ) → Part
+rowPart s y = record { start = bodyStart (headerFields s) + 3 * (headerFields s .width * y); count = 3 * headerFields s .width }
+
+abbrev pub rowUnder : Verdict → Part → RowOrRefusal
+rowUnder Accepted p = RowHolds p
+rowUnder (Refused r i) p = RowRefuses r i
+
+-- where row y stands; of a refused row its refusal
+abbrev pub findRow : List ℕ → (y : ℕ) → RowOrRefusal
+findRow s y = rowUnder (checkRow s y) (rowPart s y)
+
+-- "A refused row is the empty part"
+abbrev pub partOf : RowOrRefusal → Part
+partOf (RowHolds p) = p
+partOf (RowRefuses r i) = record { start = 0; count = 0 }
 
 -- row y, or the empty part
 abbrev pub rowOf : List ℕ → (y : ℕ) → Part
-rowOf s y = rowPart (checkRow s y) s y
+rowOf s y = partOf (findRow s y)

@@ -1,45 +1,42 @@
 -- `strip::row::row` meets its contract. Assumes nothing.
 use borrow.Author.Needs.{needs}
-use Prim.Native.Nat.{_+_, _*_, _<_}
-use mathlib.Core.Path.{sym, _∙_}
+use Prim.Native.Nat.{_+_, _<_}
+use mathlib.Core.Path.{_≡_, sym, _∙_}
 use native.Mathlib.Omega.{arith}
 use native.Mathlib.Nat.{add-sub-cancel-left, zero-add}
 use lib.ListN.{length}
 use denote.Ref.{now}
-use Rattle.strip.proofs.Limits.{Inside, row-limits}
+use Rattle.strip.specs.declared.row.RowOrRefusal.the-variants.{Holds}
+use Rattle.strip.specs.Reading.{findRow}
+use Rattle.strip.proofs.Limits.{found-inside}
 use Rattle.strip.proofs.row.row.Statement.{statement}
 use Rattle.strip.proofs.row.row.Tie as tie
 
 returns : tie.Need-returns
 returns c =
     let b = c .before in
-    let v = sym (b .before .before .check-row .ensures) ∙ b .enum-told2 .given .1 in
+    let v = sym (b .before .before .find-row .ensures) ∙ b .enum-told .given .1 in
     (simp v, simp v (rw (zero-add (c .before .before .before .before .before .args .strip .ptr .1))))
 
--- what holds once the row is accepted
-inside : (c : tie.After-shared-slice-known2) → let a = c .before .before .before .before .before .args in Inside (now (a .strip)) (a .y)
-inside c = row-limits _ _ (cc)
+found : (c : tie.After-struct-known)
+    → let f = c .before .before in
+    let a = f .before .before .before .before .args in
+    findRow (now (a .strip)) (a .y) ≡ Holds (f .found .given .0 .0)
+found c = let f = c .before .before in sym (f .before .before .find-row .ensures) ∙ f .found .given .1
 
-room : (c : tie.After-width-in)
-    → let w = c .width-in .result in
-    let a = c .before .before .before .before .before .before .args in
-    2 + 3 * (w * a .y) + 3 * w < length (now (a .strip))
-room c =
-    let q = inside (c .before) in
-    rw (c .width-in .ensures) (omega (arith, q .inside, q .strip .head .long))
+room : (c : tie.After-struct-known)
+    → let f = c .before .before in
+    let p = f .found .given .0 .0 in
+    p .start + p .count < length (now (f .before .before .before .before .args .strip))
+room c = found-inside _ _ _ (found c)
 
 returns-2 : tie.Need-returns-2
-returns-2 c =
-    let w = c .before in
-    let b = w .before .before in
-    let v = sym (b .before .before .check-row .ensures) ∙ b .enum-told .given .1 in
-    (simp (v, add-sub-cancel-left, w .width-in .ensures), simp (v, w .width-in .ensures))
+returns-2 c = let v = found (c .before) in (simp (v, add-sub-cancel-left), simp v)
 
 pub row-spec : {M : Type 1} → statement M
 row-spec =
     tie.close
     (tie.spec
     (λ c κs. search needs) (λ c. search needs) (λ c. search needs) (λ c. search needs) returns
-    (λ c. omega (arith, inside c .strip .head .long)) (λ c κs. search needs) (λ c. search needs) (λ c. omega (arith, room c))
-    (λ c. omega (arith, room c)) (λ c. omega (arith, room c)) (λ c. search needs) (λ c. omega (arith, room c))
-    (λ c. omega (arith, room c)) (λ c. search needs) (λ c. search needs) (λ c. omega (arith, room c)) returns-2)
+    (λ c. omega (arith, room c)) (λ c. omega (arith, room c)) (λ c. search needs) (λ c. search needs)
+    (λ c. omega (arith, room c)) returns-2)

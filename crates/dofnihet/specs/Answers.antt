@@ -1,0 +1,60 @@
+-- What crosses to C: numbers for a header, and answers as structs of numbers. Assumes nothing.
+-- "A refusal returns number and place"; both are 0 where a call accepts, and a field that an answer leaves free is 0.
+use Prim.Native.Nat.{ℕ}
+use lib.IntN.{pos}
+use Rattle.refusal.specs.declared.Outcome.{Outcome}
+use Rattle.refusal.specs.Refusals.{outcomeOf}
+use Rattle.word.specs.declared.header.Header.{Header}
+use Rattle.strip.specs.declared.read.HeaderOrRefusal.{HeaderOrRefusal}
+use Rattle.strip.specs.declared.read.HeaderOrRefusal.the-variants.{Holds, Refuses}
+use Rattle.strip.specs.declared.row.RowOrRefusal.{RowOrRefusal}
+use Rattle.strip.specs.declared.row.RowOrRefusal.the-variants.{Holds as RowHolds, Refuses as RowRefuses}
+use Rattle.tone.specs.declared.average.Average.{Average}
+use Rattle.tone.specs.declared.average.Average.the-variants.{Absent, Present}
+use Rattle.tone.specs.declared.tally.Tally.{Tally}
+use Rattle.page.specs.declared.tally.TallyOrRefusal.{TallyOrRefusal}
+use Rattle.page.specs.declared.tally.TallyOrRefusal.the-variants.{Holds as TallyHolds, Refuses as TallyRefuses}
+use Rattle.dofnihet.specs.declared.strips.HeaderAnswer.{HeaderAnswer}
+use Rattle.dofnihet.specs.declared.strips.RowAnswer.{RowAnswer}
+use Rattle.dofnihet.specs.declared.pages.TallyAnswer.{TallyAnswer}
+
+abbrev pub headerFrom : (width height key : ℕ) → Header
+headerFrom w h k = record { width = w; height = h; key = k }
+
+abbrev pub refusedHeader : Outcome → HeaderAnswer
+refusedHeader o = record { number = o .number; place = o .place; width = 0; height = 0; key = 0 }
+
+abbrev pub headerAnswer : HeaderOrRefusal → HeaderAnswer
+headerAnswer (Holds h) = record { number = 0; place = 0; width = h .width; height = h .height; key = h .key }
+headerAnswer (Refuses r i) = refusedHeader (outcomeOf r i)
+
+abbrev pub refusedRow : Outcome → RowAnswer
+refusedRow o = record { number = o .number; place = o .place; start = 0; length = 0 }
+
+abbrev pub rowAnswer : RowOrRefusal → RowAnswer
+rowAnswer (RowHolds p) = record { number = 0; place = 0; start = p .start; length = p .count }
+rowAnswer (RowRefuses r i) = refusedRow (outcomeOf r i)
+
+abbrev pub refusedTally : Outcome → TallyAnswer
+refusedTally o =
+    record { number = o .number; place = o .place; lit = 0; sum = pos 0; present = 0; average = pos 0; exponent = 0; mantissa = 0 }
+
+-- "If N = 0 .. the average is reported as absent"
+abbrev pub acceptedTally : Tally → Average → TallyAnswer
+acceptedTally t Absent =
+    record { number = 0; place = 0; lit = t .count; sum = t .sum; present = 0; average = pos 0; exponent = 0; mantissa = 0 }
+acceptedTally t (Present A stored) =
+    record {
+      number = 0;
+      place = 0;
+      lit = t .count;
+      sum = t .sum;
+      present = 1;
+      average = A;
+      exponent = stored .exponent;
+      mantissa = stored .mantissa;
+    }
+
+abbrev pub tallyAnswer : TallyOrRefusal → TallyAnswer
+tallyAnswer (TallyHolds t average) = acceptedTally t average
+tallyAnswer (TallyRefuses r i) = refusedTally (outcomeOf r i)

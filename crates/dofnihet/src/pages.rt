@@ -1,0 +1,86 @@
+// Pages tallied and mapped.
+ghost use mathlib.Core.Path.{_≡_};
+ghost use lib.ListN.{length};
+ghost use Rattle.refusal.specs.Verdicts.{reportOf};
+ghost use Rattle.strip.specs.Checks.{checkOutput};
+ghost use Rattle.strip.specs.Output.{after};
+ghost use Rattle.page.specs.Mapping.{stripLevels};
+ghost use Rattle.page.specs.Tallying.{tallyStrip};
+ghost use Rattle.page.specs.Claims.{TallyPromise, MapPromise};
+ghost use Rattle.dofnihet.specs.Answers.{tallyAnswer};
+use page::map::map;
+use page::tally::TallyOrRefusal;
+use page::tally::tally;
+use refusal::Outcome;
+use refusal::outcome_of;
+use refusal::report;
+use tone::average::Average;
+
+// A tally with its average; what the page does not have is 0.
+#[repr(C)]
+pub struct TallyAnswer {
+    pub number: u64,
+    pub place: u64,
+    pub lit: u64,
+    pub sum: i64,
+    pub present: u64,
+    pub average: i64,
+    pub exponent: u64,
+    pub mantissa: u64,
+}
+
+// The lit pixels of a strip, the sum of their steps and the average.
+#[no_mangle]
+pub extern "C" fn dofnihet_tally_of(strip: &[u32]) -> TallyAnswer
+    ensures answer { λ r. ⌜ r ≡ tallyAnswer (tallyStrip (now (strip .entry))) ⌝ }
+    ensures bound { λ _. ⌜ TallyPromise (now (strip .entry)) (tallyStrip (now (strip .entry))) ⌝ }
+{
+    match tally(strip) {
+        TallyOrRefusal::Holds(told, average) => match average {
+            Average::Absent => TallyAnswer {
+                number: 0,
+                place: 0,
+                lit: told.count,
+                sum: told.sum,
+                present: 0,
+                average: 0,
+                exponent: 0,
+                mantissa: 0,
+            },
+            Average::Present(steps, stored) => TallyAnswer {
+                number: 0,
+                place: 0,
+                lit: told.count,
+                sum: told.sum,
+                present: 1,
+                average: steps,
+                exponent: stored.exponent as u64,
+                mantissa: stored.mantissa as u64,
+            },
+        },
+        TallyOrRefusal::Refuses(refusal, index) => {
+            let outcome = outcome_of(refusal, index);
+            TallyAnswer {
+                number: outcome.number,
+                place: outcome.place as u64,
+                lit: 0,
+                sum: 0,
+                present: 0,
+                average: 0,
+                exponent: 0,
+                mantissa: 0,
+            }
+        },
+    }
+}
+
+// Three level bytes a pixel; a refusal leaves the output as it was.
+#[no_mangle]
+pub extern "C" fn dofnihet_map(strip: &[u32], output: &mut [u8]) -> Outcome
+    ensures outcome { λ r. ⌜ r ≡ reportOf (checkOutput (now (strip .entry)) (length (now (output .entry)))) ⌝ }
+    ensures content { λ _. ⌜ now (output .exit) ≡ after (checkOutput (now (strip .entry)) (length (now (output .entry)))) (stripLevels (now (strip .entry))) (now (output .entry)) ⌝ }
+    ensures bound { λ _. ⌜ MapPromise (now (strip .entry)) (checkOutput (now (strip .entry)) (length (now (output .entry)))) (now (output .exit)) ⌝ }
+{
+    let verdict = map(strip, output);
+    report(verdict)
+}
