@@ -15,7 +15,7 @@ use Rattle.tone.specs.declared.tally.Tally.{Tally}
 use Rattle.page.specs.declared.tally.TallyOrRefusal.{TallyOrRefusal}
 use Rattle.page.specs.declared.tally.TallyOrRefusal.the-variants.{Holds as TallyHolds, Refuses as TallyRefuses}
 use Rattle.dofnihet.specs.declared.strips.HeaderAnswer.{HeaderAnswer}
-use Rattle.dofnihet.specs.declared.strips.RowAnswer.{RowAnswer}
+use Rattle.dofnihet.specs.declared.rows.RowAnswer.{RowAnswer}
 use Rattle.dofnihet.specs.declared.pages.TallyAnswer.{TallyAnswer}
 
 abbrev pub headerFrom : (width height key : ℕ) → Header

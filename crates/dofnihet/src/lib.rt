@@ -2,5 +2,6 @@
 // numbers. include/dofnihet.h declares the same for C.
 pub mod pages;
 pub mod pictures;
+pub mod rows;
 pub mod sources;
 pub mod strips;

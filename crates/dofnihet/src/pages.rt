@@ -81,6 +81,5 @@ pub extern "C" fn dofnihet_map(strip: &[u32], output: &mut [u8]) -> Outcome
     ensures content { λ _. ⌜ now (output .exit) ≡ after (checkOutput (now (strip .entry)) (length (now (output .entry)))) (stripLevels (now (strip .entry))) (now (output .entry)) ⌝ }
     ensures bound { λ _. ⌜ MapPromise (now (strip .entry)) (checkOutput (now (strip .entry)) (length (now (output .entry)))) (now (output .exit)) ⌝ }
 {
-    let verdict = map(strip, output);
-    report(verdict)
+    report(map(strip, output))
 }

@@ -26,9 +26,7 @@ pub extern "C" fn dofnihet_convert_rgbe(
     ensures outcome { λ r. ⌜ r ≡ reportOf (checkSource rgbe (headerFrom width height key) (now (source .entry)) (length (now (output .entry)))) ⌝ }
     ensures content { λ _. ⌜ now (output .exit) ≡ after (checkSource rgbe (headerFrom width height key) (now (source .entry)) (length (now (output .entry)))) (converted rgbe (headerFrom width height key) (now (source .entry))) (now (output .entry)) ⌝ }
 {
-    let header = Header { width, height, key };
-    let verdict = convert_rgbe(source, header, output);
-    report(verdict)
+    report(convert_rgbe(source, Header { width, height, key }, output))
 }
 
 // A picture of half floats, three a pixel, 16 bits each.
@@ -43,9 +41,7 @@ pub extern "C" fn dofnihet_convert_half(
     ensures outcome { λ r. ⌜ r ≡ reportOf (checkSource half (headerFrom width height key) (now (source .entry)) (length (now (output .entry)))) ⌝ }
     ensures content { λ _. ⌜ now (output .exit) ≡ after (checkSource half (headerFrom width height key) (now (source .entry)) (length (now (output .entry)))) (converted half (headerFrom width height key) (now (source .entry))) (now (output .entry)) ⌝ }
 {
-    let header = Header { width, height, key };
-    let verdict = convert_half(source, header, output);
-    report(verdict)
+    report(convert_half(source, Header { width, height, key }, output))
 }
 
 // A picture of single floats, three a pixel, 32 bits each.
@@ -60,9 +56,7 @@ pub extern "C" fn dofnihet_convert_single(
     ensures outcome { λ r. ⌜ r ≡ reportOf (checkSource single (headerFrom width height key) (now (source .entry)) (length (now (output .entry)))) ⌝ }
     ensures content { λ _. ⌜ now (output .exit) ≡ after (checkSource single (headerFrom width height key) (now (source .entry)) (length (now (output .entry)))) (converted single (headerFrom width height key) (now (source .entry))) (now (output .entry)) ⌝ }
 {
-    let header = Header { width, height, key };
-    let verdict = convert_single(source, header, output);
-    report(verdict)
+    report(convert_single(source, Header { width, height, key }, output))
 }
 
 // A picture of stored channels, three a pixel, 16 bits each.
@@ -77,7 +71,5 @@ pub extern "C" fn dofnihet_convert_stored(
     ensures outcome { λ r. ⌜ r ≡ reportOf (checkSource stored (headerFrom width height key) (now (source .entry)) (length (now (output .entry)))) ⌝ }
     ensures content { λ _. ⌜ now (output .exit) ≡ after (checkSource stored (headerFrom width height key) (now (source .entry)) (length (now (output .entry)))) (converted stored (headerFrom width height key) (now (source .entry))) (now (output .entry)) ⌝ }
 {
-    let header = Header { width, height, key };
-    let verdict = convert_stored(source, header, output);
-    report(verdict)
+    report(convert_stored(source, Header { width, height, key }, output))
 }

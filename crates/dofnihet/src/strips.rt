@@ -4,8 +4,8 @@ ghost use lib.ListN.{length};
 ghost use Rattle.refusal.specs.Verdicts.{reportOf};
 ghost use Rattle.strip.specs.Checks.{checkStrip, checkOutput};
 ghost use Rattle.strip.specs.Output.{after};
-ghost use Rattle.strip.specs.Reading.{readHeader, findRow, stripCodes};
-ghost use Rattle.dofnihet.specs.Answers.{headerAnswer, rowAnswer};
+ghost use Rattle.strip.specs.Reading.{readHeader, stripCodes};
+ghost use Rattle.dofnihet.specs.Answers.{headerAnswer};
 use refusal::Outcome;
 use refusal::outcome_of;
 use refusal::report;
@@ -13,8 +13,6 @@ use strip::check::check;
 use strip::read::HeaderOrRefusal;
 use strip::read::header;
 use strip::read::unpack;
-use strip::row::RowOrRefusal;
-use strip::row::find_row;
 
 // A strip's header; a refusal has 0 in width, height and key.
 #[repr(C)]
@@ -26,22 +24,12 @@ pub struct HeaderAnswer {
     pub key: u64,
 }
 
-// A row: `length` words of the strip, from the index `start` on; a refusal has 0 in both.
-#[repr(C)]
-pub struct RowAnswer {
-    pub number: u64,
-    pub place: u64,
-    pub start: u64,
-    pub length: u64,
-}
-
 // Every check of a strip.
 #[no_mangle]
 pub extern "C" fn dofnihet_check(strip: &[u32]) -> Outcome
     ensures { λ r. ⌜ r ≡ reportOf (checkStrip (now (strip .entry))) ⌝ }
 {
-    let verdict = check(strip);
-    report(verdict)
+    report(check(strip))
 }
 
 // The channels of a strip as 16-bit numbers; a refusal leaves the output as it was.
@@ -50,8 +38,7 @@ pub extern "C" fn dofnihet_unpack(strip: &[u32], output: &mut [u16]) -> Outcome
     ensures outcome { λ r. ⌜ r ≡ reportOf (checkOutput (now (strip .entry)) (length (now (output .entry)))) ⌝ }
     ensures content { λ _. ⌜ now (output .exit) ≡ after (checkOutput (now (strip .entry)) (length (now (output .entry)))) (stripCodes (now (strip .entry))) (now (output .entry)) ⌝ }
 {
-    let verdict = unpack(strip, output);
-    report(verdict)
+    report(unpack(strip, output))
 }
 
 // Width, height and key of a strip.
@@ -75,30 +62,6 @@ pub extern "C" fn dofnihet_header_of(strip: &[u32]) -> HeaderAnswer
                 width: 0,
                 height: 0,
                 key: 0,
-            }
-        },
-    }
-}
-
-// Where row y of a strip stands.
-#[no_mangle]
-pub extern "C" fn dofnihet_row_of(strip: &[u32], y: u64) -> RowAnswer
-    ensures { λ r. ⌜ r ≡ rowAnswer (findRow (now (strip .entry)) y) ⌝ }
-{
-    match find_row(strip, y as usize) {
-        RowOrRefusal::Holds(part) => RowAnswer {
-            number: 0,
-            place: 0,
-            start: part.start as u64,
-            length: part.count as u64,
-        },
-        RowOrRefusal::Refuses(refusal, index) => {
-            let outcome = outcome_of(refusal, index);
-            RowAnswer {
-                number: outcome.number,
-                place: outcome.place as u64,
-                start: 0,
-                length: 0,
             }
         },
     }

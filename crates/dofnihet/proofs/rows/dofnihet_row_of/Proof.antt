@@ -1,8 +1,8 @@
--- `dofnihet::strips::dofnihet_row_of` meets its contract. Assumes nothing.
+-- `dofnihet::rows::dofnihet_row_of` meets its contract. Assumes nothing.
 use borrow.Author.Needs.{needs}
 use mathlib.Core.Path.{sym}
-use Rattle.dofnihet.proofs.strips.dofnihet_row_of.Statement.{statement}
-use Rattle.dofnihet.proofs.strips.dofnihet_row_of.Tie as tie
+use Rattle.dofnihet.proofs.rows.dofnihet_row_of.Statement.{statement}
+use Rattle.dofnihet.proofs.rows.dofnihet_row_of.Tie as tie
 
 returns : tie.Need-returns
 returns c = simp (sym (c .before .before .before .find-row .ensures), c .before .part .given .1)
