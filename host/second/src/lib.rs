@@ -1,0 +1,159 @@
+//! A second tone step: the page strip, its tally and its mapping, by the papers' rules in exact whole numbers.
+//! It is simple rather than fast, and stands beside another implementation for comparison.
+
+pub mod fixed;
+mod nearness;
+mod number;
+mod picture;
+mod refusal;
+mod sources;
+mod strip;
+mod tables;
+mod tone;
+pub mod whole;
+
+pub use nearness::LevelDistances;
+pub use refusal::Refusal;
+pub use sources::Source;
+pub use strip::Header;
+pub use tone::{Average, Tally};
+
+use refusal::{require, DARK_PAGE};
+use std::ops::Range;
+
+/// Which of the later changes hold.
+#[derive(Clone, Copy, Debug)]
+pub struct Rules {
+    /// 2026-03: a page is refused when sixteen times its lit pixels is below its pixel count.
+    pub dark_page: bool,
+    /// 2026-05: a strip may carry a white point.
+    pub white_word: bool,
+    /// 2026-06: T is rounded to the nearest step.
+    pub nearest_steps: bool,
+    /// 2026-07: the picture program prints through the screen curve.
+    pub screen_curve: bool,
+}
+
+impl Rules {
+    /// Document 01 without any change.
+    pub const BASE: Rules = Rules {
+        dark_page: false,
+        white_word: false,
+        nearest_steps: false,
+        screen_curve: false,
+    };
+}
+
+/// The rules and the tables worked out from them.
+pub struct SecondStep {
+    rules: Rules,
+    /// T[128] to T[255].
+    steps_table: Vec<i64>,
+    /// X[1] to X[255].
+    mantissa_table: Vec<u8>,
+    /// The printed sample of each level.
+    samples: Vec<u8>,
+}
+
+impl SecondStep {
+    pub fn new(rules: Rules) -> SecondStep {
+        SecondStep {
+            rules,
+            steps_table: tables::steps_table(rules.nearest_steps),
+            mantissa_table: tables::mantissa_table(),
+            samples: if rules.screen_curve {
+                tables::curve_table()
+            } else {
+                (0..=255).collect()
+            },
+        }
+    }
+
+    /// A source picture as a whole strip; `room` is the length of the lent output in words.
+    pub fn convert(&self, source: Source, header: Header, room: usize) -> Result<Vec<u32>, Refusal> {
+        strip::convert(&self.rules, source, header, room)
+    }
+
+    /// All checks of a strip that no row is asked of and that no output is lent with.
+    pub fn check(&self, strip: &[u32]) -> Result<(), Refusal> {
+        self.header(strip).map(|_| ())
+    }
+
+    /// The header of an accepted strip.
+    pub fn header(&self, strip: &[u32]) -> Result<Header, Refusal> {
+        strip::accept(&self.rules, strip, None)
+    }
+
+    /// The word indices of row y of an accepted strip.
+    pub fn row(&self, strip: &[u32], y: u64) -> Result<Range<usize>, Refusal> {
+        strip::row(&self.rules, strip, y)
+    }
+
+    /// An accepted strip as a stored row; `room` is in its 16-bit numbers.
+    pub fn unpack(&self, strip: &[u32], room: usize) -> Result<Vec<u16>, Refusal> {
+        let header = strip::accept(&self.rules, strip, Some(room))?;
+        Ok(strip::stored_row(strip, &header))
+    }
+
+    pub fn tally(&self, strip: &[u32]) -> Result<Tally, Refusal> {
+        let header = self.page(strip, None)?;
+        Ok(self.tally_of(strip, &header))
+    }
+
+    /// Mapping: three level bytes a pixel; `room` is in bytes.
+    pub fn levels(&self, strip: &[u32], room: usize) -> Result<Vec<u8>, Refusal> {
+        let header = self.page(strip, Some(room))?;
+        let average = self.tally_of(strip, &header).average;
+        Ok(tone::levels(strip::pixels(strip, &header), &header, average))
+    }
+
+    /// The whole output of the picture program for this standard input.
+    pub fn picture(&self, input: &[u8]) -> Vec<u8> {
+        picture::print(self, input)
+    }
+
+    /// Whether the first half of demand 3 holds of the reported steps. It does not where the tally refuses the strip
+    /// or has no steps to report. Exact; the time grows fast with the number of lit pixels.
+    pub fn mean_holds(&self, strip: &[u32], reported_steps: i64) -> bool {
+        match self.page(strip, None) {
+            Ok(header) => nearness::mean_holds(strip::pixels(strip, &header), reported_steps, self.rules.nearest_steps),
+            Err(_) => false,
+        }
+    }
+
+    /// How many steps the true mean lies above the reported one, for printing; no number where there is no mean.
+    pub fn mean_above(&self, strip: &[u32], reported_steps: i64) -> f64 {
+        match self.page(strip, None) {
+            Ok(header) => nearness::mean_above(strip::pixels(strip, &header), reported_steps),
+            Err(_) => f64::NAN,
+        }
+    }
+
+    /// The second half of demand 3 on every lit pixel and channel; nothing is compared where mapping refuses the strip.
+    pub fn level_distances(&self, strip: &[u32], average: Average, levels: &[u8]) -> LevelDistances {
+        match self.page(strip, None) {
+            Ok(header) => nearness::level_distances(strip::pixels(strip, &header), &header, average, levels),
+            Err(_) => LevelDistances::NONE,
+        }
+    }
+
+    /// The checks of tallying and mapping: those of a strip, then "9 dark page, place 0, after every word has passed".
+    fn page(&self, strip: &[u32], room: Option<usize>) -> Result<Header, Refusal> {
+        let header = strip::accept(&self.rules, strip, room)?;
+        if self.rules.dark_page {
+            let lit = strip::pixels(strip, &header).filter(tone::is_lit).count();
+            require(16 * lit >= header.pixels(), DARK_PAGE)?;
+        }
+        Ok(header)
+    }
+
+    /// The tally of an accepted page.
+    fn tally_of(&self, strip: &[u32], header: &Header) -> Tally {
+        tone::tally(strip::pixels(strip, header), &self.steps_table, &self.mantissa_table)
+    }
+
+    /// What the picture program prints for a level.
+    fn sample(&self, level: u8) -> u8 {
+        self.samples[level as usize]
+    }
+}

@@ -1,0 +1,172 @@
+//! "The steps", on the pixels of an accepted strip.
+
+use crate::number::{Channel, Fraction, Number, Pixel, Side};
+use crate::strip::Header;
+
+/// The weights of R, G and B in a hundred times the luminance.
+pub const WEIGHTS: [u64; 3] = [27, 67, 6];
+
+/// The steps A of step 3 and the stored average.
+#[derive(Clone, Copy, Debug, PartialEq, Eq)]
+pub struct Average {
+    pub steps: i64,
+    pub exponent: u8,
+    pub mantissa: u8,
+}
+
+/// N, the sum of steps, and the average, absent if N = 0.
+#[derive(Clone, Copy, Debug, PartialEq, Eq)]
+pub struct Tally {
+    pub lit: u64,
+    pub sum: i64,
+    pub average: Option<Average>,
+}
+
+/// "A pixel is lit if any of its three channel words is."
+pub fn is_lit(pixel: &Pixel) -> bool {
+    pixel.iter().any(Channel::is_lit)
+}
+
+/// Step 1: (27R + 67G + 6B)/100, stored; None if all are black. Channels are counted in units of 2^(72−137), so
+/// that the numerator has at most 16 + 112 digits.
+pub fn luminance(pixel: &Pixel) -> Option<Number> {
+    let mut hundredfold = Side::ZERO;
+    for (channel, weight) in pixel.iter().zip(WEIGHTS) {
+        if let Channel::Lit(number) = channel {
+            hundredfold = hundredfold + (Side::from(weight * number.significand()) << (number.exponent - 72) as u32);
+        }
+    }
+    if hundredfold == Side::ZERO {
+        return None;
+    }
+    let value = Fraction {
+        numerator: hundredfold,
+        denominator: Side::from(100),
+    };
+    Some(Number::store(value.times_power_of_two(72 - 137)))
+}
+
+/// Step 2: 256(E−136) + T[M].
+fn steps(luminance: Number, steps_table: &[i64]) -> i64 {
+    256 * (luminance.exponent as i64 - 136) + steps_table[luminance.mantissa as usize - 128]
+}
+
+/// Steps 2 and 3 over a page.
+pub fn tally(pixels: impl Iterator<Item = Pixel>, steps_table: &[i64], mantissa_table: &[u8]) -> Tally {
+    let (mut lit, mut sum) = (0, 0);
+    for luminance in pixels.filter_map(|pixel| luminance(&pixel)) {
+        lit += 1;
+        sum += steps(luminance, steps_table);
+    }
+    let average = if lit == 0 { None } else { Some(average(sum, lit, mantissa_table)) };
+    Tally { lit, sum, average }
+}
+
+/// Step 3: "the sum of steps over the N lit pixels, divided by N, rounded toward minus infinity. Write A = 256q + f,
+/// f 0 to 255. The stored average is (q+128, 255) if f = 0, else (q+129, X[f])". As E is 67 to 184, so is the
+/// average's exponent.
+fn average(sum: i64, lit: u64, mantissa_table: &[u8]) -> Average {
+    let steps = sum.div_euclid(lit as i64);
+    let (q, f) = (steps.div_euclid(256), steps.rem_euclid(256));
+    match f {
+        0 => Average {
+            steps,
+            exponent: (q + 128) as u8,
+            mantissa: 255,
+        },
+        _ => Average {
+            steps,
+            exponent: (q + 129) as u8,
+            mantissa: mantissa_table[f as usize - 1],
+        },
+    }
+}
+
+/// Step 4: K/1000 times luminance over average, stored.
+fn scaled_luminance(luminance: Number, average: Number, key: u64) -> Number {
+    let (above, below) = (key * luminance.significand(), 1000 * average.significand());
+    Number::store(Fraction::new(above, below, luminance.exponent - average.exponent))
+}
+
+/// Step 5: L/(1+L), stored; with a white point w = W/10, L(1 + L/w²)/(1+L). With L = p/q these are p/(q + p) and
+/// p(W²q + 100p) / (W²q(q + p)). E of L is 1 to 246, so p and q have at most 118 and 137 digits.
+fn display_luminance(scaled: Number, white: Option<u64>) -> Number {
+    let Fraction {
+        numerator: p,
+        denominator: q,
+    } = Fraction::new(scaled.significand(), 1, scaled.exponent - 137);
+    let value = match white {
+        None => Fraction {
+            numerator: p,
+            denominator: q + p,
+        },
+        Some(white) => {
+            let squared = q * (white * white);
+            Fraction {
+                numerator: p * (squared + p * 100),
+                denominator: squared * (q + p),
+            }
+        }
+    };
+    Number::store(value)
+}
+
+/// Step 6: 255 × display luminance × channel / luminance. "Black gives 0."
+fn level(channel: Channel, display: Number, luminance: Number) -> u8 {
+    match channel {
+        Channel::Black => 0,
+        Channel::Lit(number) => {
+            let above = 255 * display.significand() * number.significand();
+            let power = display.exponent + number.exponent - luminance.exponent - 137;
+            Fraction::new(above, luminance.significand(), power).nearest_level()
+        }
+    }
+}
+
+/// Display luminances of one page, each worked out once for its stored luminance.
+struct Displays {
+    average: Number,
+    key: u64,
+    white: Option<u64>,
+    known: Vec<Option<Number>>,
+}
+
+impl Displays {
+    fn new(average: Average, header: &Header) -> Displays {
+        let average = Number {
+            exponent: average.exponent as i32,
+            mantissa: average.mantissa as u32,
+        };
+        Displays {
+            average,
+            key: header.key,
+            white: header.white,
+            known: vec![None; 1 << 16],
+        }
+    }
+
+    fn of(&mut self, luminance: Number) -> Number {
+        let (average, key, white) = (self.average, self.key, self.white);
+        let place = luminance.exponent as usize * 256 + luminance.mantissa as usize;
+        *self.known[place].get_or_insert_with(|| display_luminance(scaled_luminance(luminance, average, key), white))
+    }
+}
+
+/// Steps 4 to 6 over a page: three levels a pixel. "If N = 0, all levels are 0."
+pub fn levels(pixels: impl Iterator<Item = Pixel>, header: &Header, average: Option<Average>) -> Vec<u8> {
+    let Some(average) = average else {
+        return vec![0; 3 * header.pixels()];
+    };
+    let mut displays = Displays::new(average, header);
+    let mut levels = Vec::with_capacity(3 * header.pixels());
+    for pixel in pixels {
+        match luminance(&pixel) {
+            None => levels.extend([0; 3]),
+            Some(luminance) => {
+                let display = displays.of(luminance);
+                levels.extend(pixel.map(|channel| level(channel, display, luminance)));
+            }
+        }
+    }
+    levels
+}

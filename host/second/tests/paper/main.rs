@@ -1,0 +1,8 @@
+//! The papers' figures and rules, through the public calls.
+
+mod changes;
+mod examples;
+mod helpers;
+mod nearness;
+mod refusals;
+mod whole_numbers;

@@ -1,0 +1,189 @@
+//! Demand 3: the two checks accept what lies inside the bounds and nothing outside.
+
+use crate::helpers::*;
+use second::{Average, Rules, SecondStep};
+
+fn step(white_word: bool, nearest_steps: bool) -> SecondStep {
+    SecondStep::new(Rules {
+        white_word,
+        nearest_steps,
+        ..Rules::BASE
+    })
+}
+
+/// One grey of (128,255): 256 · log2(255.5/256) = −0.722.
+#[test]
+fn mean_bounds() {
+    let strip = half_strip(&base(), &grey(&[ONE]), 180);
+    let holding: Vec<i64> = (-5..5).filter(|&steps| base().mean_holds(&strip, steps)).collect();
+    assert_eq!(holding, [-2, -1]);
+    let nearest = step(false, true);
+    let holding: Vec<i64> = (-5..5).filter(|&steps| nearest.mean_holds(&strip, steps)).collect();
+    assert_eq!(holding, [-2, -1]);
+    assert!((base().mean_above(&strip, -1) - 0.278).abs() < 0.001);
+}
+
+/// One grey of (136,192): 256 · log2(192.5) = 1942.99.
+#[test]
+fn mean_bounds_differ() {
+    let strip = stored_strip(&base(), &grey(&[stored(136, 192)]), 180, None);
+    let holding = |step: SecondStep| (1930..1950).filter(|&steps| step.mean_holds(&strip, steps)).collect::<Vec<i64>>();
+    assert_eq!(holding(base()), [1941, 1942]);
+    assert_eq!(holding(step(false, true)), [1942, 1943]);
+}
+
+#[test]
+fn mean_of_wild_reports() {
+    let strip = half_strip(&base(), &grey(&[ONE]), 180);
+    for steps in [i64::MIN, i64::MAX] {
+        assert!(!base().mean_holds(&strip, steps) && !step(false, true).mean_holds(&strip, steps));
+    }
+    let unlit = half_strip(&base(), &grey(&[BLACK]), 180);
+    assert!(!base().mean_holds(&unlit, 0) && base().mean_above(&unlit, 0).is_nan());
+    assert!(!base().mean_holds(&[], 0) && base().mean_above(&[], 0).is_nan());
+}
+
+/// The tally's own steps hold, and the exact bounds agree with the printed distance.
+#[test]
+fn means_of_generated_pages() {
+    let mut generator = Generator(7);
+    for nearest in [false, true] {
+        let step = step(false, nearest);
+        let (least, limit) = if nearest { (-0.5, 1.5) } else { (0.0, 2.0) };
+        for pixels in [1, 2, 3, 10, 40, 150] {
+            let strip = stored_strip(&step, &generator.page(pixels), 180, None);
+            let Some(average) = step.tally(&strip).unwrap().average else {
+                continue;
+            };
+            assert!(step.mean_holds(&strip, average.steps));
+            for steps in average.steps - 4..average.steps + 5 {
+                let above = step.mean_above(&strip, steps);
+                if (above - least).abs() > 1e-6 && (above - limit).abs() > 1e-6 {
+                    assert_eq!(step.mean_holds(&strip, steps), least <= above && above < limit);
+                }
+            }
+        }
+    }
+}
+
+/// The average (128,255).
+const ONE_AVERAGE: Average = Average {
+    steps: -1,
+    exponent: 128,
+    mantissa: 255,
+};
+
+/// The levels that pass for all three channels of one grey pixel under an average of its own worth.
+fn passing(key: u64, white: Option<u64>) -> Vec<u8> {
+    let step = step(true, false);
+    let strip = stored_strip(&step, &[stored(128, 255); 3], key, white);
+    (0..=255)
+        .filter(|&level| step.level_distances(&strip, ONE_AVERAGE, &[level; 3]).first_failure.is_none())
+        .collect()
+}
+
+/// L = 0.18: 255 · 0.18/1.18 = 38.898. L = 1: exactly 127.5, and 125 and 130 are exactly 5/2 away.
+#[test]
+fn level_bounds() {
+    assert_eq!(passing(180, None), [37, 38, 39, 40, 41]);
+    assert_eq!(passing(1000, None), [126, 127, 128, 129]);
+}
+
+/// L = 1: w = 1 gives 255; w = 2 gives 255 · 1.25/2 = 159.375.
+#[test]
+fn level_bounds_with_white() {
+    assert_eq!(passing(1000, Some(10)), [253, 254, 255]);
+    assert_eq!(passing(1000, Some(20)), [157, 158, 159, 160, 161]);
+}
+
+#[test]
+fn reported_failures() {
+    let strip = half_strip(&base(), &grey(&[BLACK, ONE]), 180);
+    let found = base().level_distances(&strip, ONE_AVERAGE, &[9, 9, 9, 39, 36, 42]);
+    assert_eq!((found.compared, found.first_failure), (3, Some(4)));
+    assert!((found.worst - 3.102).abs() < 0.001);
+    let found = base().level_distances(&strip, ONE_AVERAGE, &[9, 9, 9, 39, 39]);
+    assert_eq!((found.compared, found.first_failure), (2, Some(5)));
+    let found = base().level_distances(&EXAMPLE[..8], ONE_AVERAGE, &[]);
+    assert_eq!((found.compared, found.first_failure), (0, None));
+}
+
+/// Red alone at K 1,000 is some 472, clipped at 255; its black channels are 0.
+#[test]
+fn clipped_values() {
+    let strip = half_strip(&base(), &[ONE, BLACK, BLACK], 1000);
+    let average = base().tally(&strip).unwrap().average.unwrap();
+    let failure = |levels: [u8; 3]| base().level_distances(&strip, average, &levels).first_failure;
+    assert_eq!(failure([255, 0, 0]), None);
+    assert_eq!(failure([253, 2, 2]), None);
+    assert_eq!(failure([252, 0, 0]), Some(0));
+    assert_eq!(failure([255, 0, 3]), Some(2));
+}
+
+#[test]
+fn levels_of_generated_pages() {
+    let mut generator = Generator(8);
+    for round in 0..300 {
+        let step = step(true, round % 2 == 0);
+        let white = if round % 3 == 0 { None } else { Some(10 + generator.below(991)) };
+        let strip = stored_strip(&step, &generator.page(30), 1 + generator.below(1000), white);
+        let tally = step.tally(&strip).unwrap();
+        let found = step.level_distances(&strip, tally.average.unwrap(), &levels(&step, &strip));
+        assert_eq!((found.compared, found.first_failure), (3 * tally.lit, None));
+        assert!(found.worst < 2.5);
+    }
+}
+
+/// Any average, key, white point and channel fit in the numbers' width.
+#[test]
+fn wild_averages() {
+    let step = step(true, false);
+    let channels = [BLACK, stored(72, 128), stored(72, 255), stored(184, 255)];
+    let source: Vec<u16> = (0..192)
+        .map(|place| channels[[place / 3 % 4, place / 12 % 4, place / 48][place % 3]])
+        .collect();
+    for (key, white) in [
+        (1, None),
+        (1000, None),
+        (1, Some(10)),
+        (1000, Some(1000)),
+        (1000, Some(10)),
+        (1, Some(1000)),
+    ] {
+        let strip = stored_strip(&step, &source, key, white);
+        for exponent in 0..=255 {
+            for mantissa in [0, 128, 255] {
+                let average = Average {
+                    steps: 0,
+                    exponent,
+                    mantissa,
+                };
+                assert_eq!(step.level_distances(&strip, average, &[0; 192]).compared, 189);
+            }
+        }
+    }
+}
+
+/// The widest numbers of mapping: the least and the greatest scaled luminance, with and without a white point.
+#[test]
+fn extreme_pages() {
+    let step = step(true, false);
+    let dark = [BLACK, BLACK, stored(72, 128)];
+    let bright = [stored(184, 255); 3];
+    for (few, many) in [(dark, bright), (bright, dark)] {
+        for (key, white) in [
+            (1, None),
+            (1000, None),
+            (1, Some(10)),
+            (1000, Some(1000)),
+            (1000, Some(10)),
+            (1, Some(1000)),
+        ] {
+            let source = [vec![few; 1], vec![many; 8000]].concat().concat();
+            let strip = stored_strip(&step, &source, key, white);
+            let average = step.tally(&strip).unwrap().average.unwrap();
+            let found = step.level_distances(&strip, average, &levels(&step, &strip));
+            assert_eq!((found.compared, found.first_failure), (24_003, None));
+        }
+    }
+}
