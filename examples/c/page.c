@@ -1,0 +1,51 @@
+/* A page of four grey pixels, given as half floats: converted into a strip, tallied, mapped, and one row of it found.
+ * `tests/c_example` builds and runs it. */
+#include "dofnihet.h"
+
+#include <inttypes.h>
+#include <stdio.h>
+
+enum { WIDTH = 2, HEIGHT = 2, PIXELS = WIDTH * HEIGHT };
+
+/* Greys 1.0 and 0.5 above, 0.5 and 1.0 below. */
+static const uint16_t source[3 * PIXELS] = {
+    0x3C00, 0x3C00, 0x3C00, 0x3800, 0x3800, 0x3800,
+    0x3800, 0x3800, 0x3800, 0x3C00, 0x3C00, 0x3C00,
+};
+
+static int refused(const char *call, uint64_t number, uint64_t place)
+{
+    fprintf(stderr, "%s: refused %" PRIu64 " %" PRIu64 "\n", call, number, place);
+    return 1;
+}
+
+int main(void)
+{
+    uint32_t strip[DOFNIHET_STRIP_LENGTH(PIXELS)];
+    size_t words = DOFNIHET_STRIP_LENGTH(PIXELS);
+    dofnihet_outcome converted = dofnihet_convert_half(source, 3 * PIXELS, WIDTH, HEIGHT, 180, strip, words);
+    if (converted.number != 0)
+        return refused("convert", converted.number, converted.place);
+
+    dofnihet_tally tally = dofnihet_tally_of(strip, words);
+    if (tally.number != 0)
+        return refused("tally", tally.number, tally.place);
+    printf("lit %" PRIu64 ", average %" PRId64 " steps, stored as (%" PRIu64 ",%" PRIu64 ")\n", tally.lit, tally.average, tally.exponent,
+           tally.mantissa);
+
+    uint8_t levels[3 * PIXELS];
+    dofnihet_outcome mapped = dofnihet_map(strip, words, levels, sizeof levels);
+    if (mapped.number != 0)
+        return refused("map", mapped.number, mapped.place);
+    for (int y = 0; y < HEIGHT; y++)
+        printf("levels of row %d: %d %d\n", y, levels[3 * WIDTH * y], levels[3 * (WIDTH * y + 1)]);
+
+    dofnihet_row row = dofnihet_row_of(strip, words, 1);
+    printf("row 1 is %" PRIu64 " words from word %" PRIu64 " on\n", row.length, row.start);
+
+    /* A damaged strip is told by number and place. */
+    strip[row.start] = 0;
+    dofnihet_outcome checked = dofnihet_check(strip, words);
+    printf("damaged: refused %" PRIu64 " %" PRIu64 "\n", checked.number, checked.place);
+    return 0;
+}
