@@ -9,9 +9,9 @@ use Rattle.strip.specs.declared.read.HeaderOrRefusal.{HeaderOrRefusal}
 use Rattle.strip.specs.declared.read.HeaderOrRefusal.the-variants.{Holds, Refuses}
 use Rattle.strip.specs.declared.row.RowOrRefusal.{RowOrRefusal}
 use Rattle.strip.specs.declared.row.RowOrRefusal.the-variants.{Holds as RowHolds, Refuses as RowRefuses}
-use Rattle.tone.specs.declared.average.Average.{Average}
-use Rattle.tone.specs.declared.average.Average.the-variants.{Absent, Present}
-use Rattle.tone.specs.declared.tally.Tally.{Tally}
+use Rattle.average.specs.declared.average.Average.{Average}
+use Rattle.average.specs.declared.average.Average.the-variants.{Absent, Present}
+use Rattle.average.specs.declared.tally.Tally.{Tally}
 use Rattle.page.specs.declared.tally.TallyOrRefusal.{TallyOrRefusal}
 use Rattle.page.specs.declared.tally.TallyOrRefusal.the-variants.{Holds as TallyHolds, Refuses as TallyRefuses}
 use Rattle.dofnihet.specs.declared.strips.HeaderAnswer.{HeaderAnswer}

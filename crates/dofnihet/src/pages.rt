@@ -8,13 +8,13 @@ ghost use Rattle.page.specs.Mapping.{stripLevels};
 ghost use Rattle.page.specs.Tallying.{tallyStrip};
 ghost use Rattle.page.specs.Claims.{TallyPromise, MapPromise};
 ghost use Rattle.dofnihet.specs.Answers.{tallyAnswer};
+use average::average::Average;
 use page::map::map;
 use page::tally::TallyOrRefusal;
 use page::tally::tally;
 use refusal::Outcome;
 use refusal::outcome_of;
 use refusal::report;
-use tone::average::Average;
 
 // A tally with its average; what the page does not have is 0.
 #[repr(C)]

@@ -9,10 +9,10 @@ use Rattle.refusal.specs.Verdicts.{require, andThen}
 use Rattle.word.specs.Words.{sizeFits, keyFits}
 use Rattle.word.specs.Fields.{checkSizeWord, checkKeyWord, decodeWord}
 use Rattle.strip.specs.Checks.{checkHead, checkBody, checkWith, checkStrip, checkOutput}
-use Rattle.tone.specs.Pixels.{luminanceOf}
-use Rattle.tone.specs.Tables.{greatest, logTest, logOf, rootTest, rootOf}
-use Rattle.tone.specs.Averages.{storedAverage, averageOf}
-use Rattle.tone.specs.Tallies.{sumOf}
+use Rattle.luminance.specs.Pixels.{luminanceOf}
+use Rattle.average.specs.Tables.{greatest, logTest, logOf, rootTest, rootOf}
+use Rattle.average.specs.Averages.{storedAverage, averageOf}
+use Rattle.average.specs.Tallies.{sumOf}
 use Rattle.tone.specs.Levels.{levelOf}
 use Rattle.page.specs.Tallying.{luminancesOf, tallyStrip}
 use Rattle.examples.specs.Examples.{TableHolds}

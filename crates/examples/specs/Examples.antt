@@ -14,9 +14,9 @@ use Rattle.strip.specs.Checks.{channelCount, checkOutput}
 use Rattle.strip.specs.Output.{after}
 use Rattle.convert.specs.Formats.{Format}
 use Rattle.convert.specs.Converting.{converted}
-use Rattle.tone.specs.declared.average.Average.{Average}
-use Rattle.tone.specs.declared.average.Average.the-variants.{Present}
-use Rattle.tone.specs.Tables.{logOf, rootOf}
+use Rattle.average.specs.declared.average.Average.{Average}
+use Rattle.average.specs.declared.average.Average.the-variants.{Present}
+use Rattle.average.specs.Tables.{logOf, rootOf}
 use Rattle.page.specs.declared.tally.TallyOrRefusal.{TallyOrRefusal}
 use Rattle.page.specs.Tallying.{tallyStrip}
 use Rattle.page.specs.Mapping.{stripLevels}

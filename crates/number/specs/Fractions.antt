@@ -13,6 +13,22 @@ infix 55 _over_
 abbrev pub _over_ : ℕ → ℕ → Frac
 n over d = record { num = n; den = d }
 
+-- reckoning: nothing is reduced
+infixl 70 _·_ _÷_
+abbrev pub _·_ : Frac → Frac → Frac
+x · y = x .num * y .num over x .den * y .den
+
+-- of a y that is not 0
+abbrev pub _÷_ : Frac → Frac → Frac
+x ÷ y = x .num * y .den over x .den * y .num
+
+infixr 65 _times_
+abbrev pub _times_ : ℕ → Frac → Frac
+n times x = n * x .num over x .den
+
+abbrev pub power : Frac → ℕ → Frac
+power x n = x .num ^ n over x .den ^ n
+
 -- 2^-k and 2^k
 abbrev pub twoToMinus : ℕ → Frac
 twoToMinus k = 1 over 2 ^ k

@@ -60,6 +60,9 @@ unit = 2 ^ 137
 abbrev pub worth : (E M : ℕ) → Frac
 worth E M = (2 * M + 1) * 2 ^ E over unit
 
+abbrev pub storedWorth : Stored → Frac
+storedWorth s = worth (s .exponent) (s .mantissa)
+
 -- 2^(E−1) < F · 2^128 ≤ 2^E: the greatest whole number below F · 2^128 has E binary digits
 unfoldable pub exponentOf : Frac → ℕ
 exponentOf F = size ((F .num * 2 ^ 128 - 1) / F .den)

@@ -16,14 +16,14 @@ use Rattle.strip.specs.Checks.{headerFields, checkStrip, checkOutput}
 use Rattle.strip.specs.Output.{onto, after}
 use Rattle.strip.specs.Reading.{stripPixels}
 use Rattle.strip.proofs.Limits.{Whole, whole-strip, output-strip}
-use Rattle.tone.specs.declared.average.Average.{Average}
-use Rattle.tone.specs.declared.average.Average.the-variants.{Absent, Present}
-use Rattle.tone.specs.declared.tally.Tally.{Tally}
-use Rattle.tone.specs.Averages.{storedAverage}
-use Rattle.tone.specs.Levels.{IsKey, IsStoredAverage}
-use Rattle.tone.specs.Pixels.{IsPixel}
-use Rattle.tone.specs.Tallies.{tallyOf}
-use Rattle.tone.proofs.Laws.{reported, absent, reported-range, mean-bound, level-bound}
+use Rattle.average.specs.declared.average.Average.{Average}
+use Rattle.average.specs.declared.average.Average.the-variants.{Absent, Present}
+use Rattle.average.specs.declared.tally.Tally.{Tally}
+use Rattle.average.specs.Averages.{storedAverage, IsStoredAverage}
+use Rattle.tone.specs.Levels.{IsKey}
+use Rattle.luminance.specs.Pixels.{IsPixel}
+use Rattle.average.specs.Tallies.{tallyOf}
+use Rattle.tone.proofs.Laws.{level-bound}
 use Rattle.page.specs.declared.tally.TallyOrRefusal.{TallyOrRefusal}
 use Rattle.page.specs.declared.tally.TallyOrRefusal.the-variants.{Holds, Refuses}
 use Rattle.page.specs.Tallying.{stripLuminances, stripAverage, tallyUnder, tallyStrip}
@@ -31,6 +31,7 @@ use Rattle.page.specs.Mapping.{levelsUnder, stripLevels}
 use Rattle.page.specs.Claims.{litCount, MeanHalf, EachThree, LitBound, LevelHalf, BoundsReported, DemandThree}
 use Rattle.page.specs.Claims.{WhereLit, TallyPromise, MapPromise}
 use Rattle.page.proofs.Luminances.{storedLuminance, lit-luminance, lit-count, every-luminance}
+use Rattle.average.proofs.Laws.{reported, absent, reported-range, mean-bound}
 use Rattle.page.proofs.Strips.{strip-key, strip-valid, strip-sum}
 
 -- ---- the levels of a list of pixels, with anything behind them

@@ -11,13 +11,14 @@ use Rattle.number.specs.declared.ratio.Stored.{Stored}
 use Rattle.number.proofs.Laws.{Every, storedOf}
 use Rattle.word.specs.Pixels.{pixelOf, wordChannel}
 use Rattle.word.proofs.Pixels.{word-valid}
-use Rattle.tone.specs.declared.luminance.Luminance.{Luminance}
-use Rattle.tone.specs.declared.luminance.Luminance.the-variants.{Unlit}
-use Rattle.tone.specs.Pixels.{IsPixel, exactLuminance, anyLit, luminanceOf, IsLuminance}
-use Rattle.tone.specs.Tallies.{tallyOf}
-use Rattle.tone.proofs.Laws.{luminance-range, tally-snoc}
+use Rattle.luminance.specs.declared.pixel.Luminance.{Luminance}
+use Rattle.luminance.specs.declared.pixel.Luminance.the-variants.{Unlit}
+use Rattle.luminance.specs.Pixels.{IsPixel, exactLuminance, anyLit, luminanceOf, IsLuminance}
+use Rattle.average.specs.Tallies.{tallyOf}
+use Rattle.luminance.proofs.Laws.{luminance-range}
 use Rattle.word.specs.Pixels.{wordPixels}
 use Rattle.page.specs.Tallying.{ifLit, luminancesOf, withPixel}
+use Rattle.average.proofs.Laws.{tally-snoc}
 use Rattle.page.specs.Claims.{litCount}
 
 -- ---- one pixel more

@@ -17,14 +17,14 @@ use Rattle.strip.specs.Reading.{stripPixels}
 use Rattle.strip.proofs.Limits.{Whole}
 use Rattle.strip.proofs.Bodies.{pixels-in}
 use Rattle.strip.proofs.RoundTrip.{count-pixels}
-use Rattle.tone.specs.declared.average.Average.{Average}
-use Rattle.tone.specs.declared.average.Average.the-variants.{Absent, Present}
-use Rattle.tone.specs.declared.tally.Tally.{Tally}
-use Rattle.tone.specs.Averages.{averageOf, IsSum, HasAverage}
+use Rattle.average.specs.declared.average.Average.{Average}
+use Rattle.average.specs.declared.average.Average.the-variants.{Absent, Present}
+use Rattle.average.specs.declared.tally.Tally.{Tally}
+use Rattle.average.specs.Averages.{averageOf, IsSum, HasAverage}
 use Rattle.tone.specs.Levels.{IsKey}
-use Rattle.tone.specs.Pixels.{IsPixel}
-use Rattle.tone.specs.Tallies.{sumOf, tallyOf}
-use Rattle.tone.proofs.Laws.{tally-is-sum, sum-fits, sum-has-average}
+use Rattle.luminance.specs.Pixels.{IsPixel}
+use Rattle.average.specs.Tallies.{sumOf, tallyOf}
+use Rattle.average.proofs.Laws.{tally-is-sum, sum-fits, sum-has-average}
 use Rattle.page.specs.Tallying.{stripLuminances, stripAverage}
 use Rattle.page.specs.Mapping.{levelsOf, levelsUnder, pageLevels, stripLevels}
 use Rattle.page.proofs.Walks.{length-bytes}

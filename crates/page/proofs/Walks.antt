@@ -9,11 +9,11 @@ use Rattle.number.specs.declared.channel.Pixel.{Pixel}
 use Rattle.number.proofs.Laws.{every-take}
 use Rattle.word.specs.Pixels.{wordPixels}
 use Rattle.word.proofs.Pixels.{length-word-pixels, pixelAt, take-pixel, drop-pixel}
-use Rattle.tone.specs.declared.tally.Tally.{Tally}
-use Rattle.tone.specs.Averages.{IsSum}
-use Rattle.tone.specs.Pixels.{IsPixel, luminanceOf}
-use Rattle.tone.specs.Tallies.{tallyOf}
-use Rattle.tone.proofs.Laws.{tally-is-sum}
+use Rattle.average.specs.declared.tally.Tally.{Tally}
+use Rattle.average.specs.Averages.{IsSum}
+use Rattle.luminance.specs.Pixels.{IsPixel, luminanceOf}
+use Rattle.average.specs.Tallies.{tallyOf}
+use Rattle.average.proofs.Laws.{tally-is-sum}
 use Rattle.page.specs.declared.body_levels.Levels.{Levels}
 use Rattle.page.specs.Tallying.{luminancesOf, withPixel}
 use Rattle.page.specs.Mapping.{levelBytes}

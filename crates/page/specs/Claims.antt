@@ -13,16 +13,17 @@ use Rattle.refusal.specs.declared.Verdict.the-variants.{Accepted, Refused}
 use Rattle.strip.specs.Checks.{headerFields, checkOutput}
 use Rattle.strip.specs.Output.{onto}
 use Rattle.strip.specs.Reading.{stripPixels}
-use Rattle.tone.specs.declared.average.Average.{Average}
-use Rattle.tone.specs.declared.average.Average.the-variants.{Absent, Present}
-use Rattle.tone.specs.Averages.{storedAverage}
-use Rattle.tone.specs.Claims.{MeanBound, LevelBound}
+use Rattle.average.specs.declared.average.Average.{Average}
+use Rattle.average.specs.declared.average.Average.the-variants.{Absent, Present}
+use Rattle.average.specs.Averages.{storedAverage}
+use Rattle.tone.specs.Claims.{LevelBound}
 use Rattle.tone.specs.Levels.{reinhard}
-use Rattle.tone.specs.Pixels.{anyLit}
-use Rattle.tone.specs.Tallies.{tallyOf}
+use Rattle.luminance.specs.Pixels.{anyLit}
+use Rattle.average.specs.Tallies.{tallyOf}
 use Rattle.page.specs.declared.tally.TallyOrRefusal.{TallyOrRefusal}
 use Rattle.page.specs.declared.tally.TallyOrRefusal.the-variants.{Holds, Refuses}
 use Rattle.page.specs.Tallying.{luminancesOf, stripLuminances, stripAverage, tallyStrip}
+use Rattle.average.specs.Claims.{MeanBound}
 use Rattle.page.specs.Mapping.{stripLevels}
 
 -- "N counts these pixels."

@@ -8,12 +8,12 @@ use Rattle.number.specs.declared.channel.Pixel.{Pixel}
 use Rattle.number.specs.declared.ratio.Stored.{Stored}
 use Rattle.strip.specs.Checks.{headerFields}
 use Rattle.strip.specs.Reading.{stripPixels}
-use Rattle.tone.specs.declared.average.Average.{Average}
-use Rattle.tone.specs.declared.average.Average.the-variants.{Absent, Present}
-use Rattle.tone.specs.declared.luminance.Luminance.{Luminance}
-use Rattle.tone.specs.declared.luminance.Luminance.the-variants.{Unlit, Lit}
+use Rattle.average.specs.declared.average.Average.{Average}
+use Rattle.average.specs.declared.average.Average.the-variants.{Absent, Present}
+use Rattle.luminance.specs.declared.pixel.Luminance.{Luminance}
+use Rattle.luminance.specs.declared.pixel.Luminance.the-variants.{Unlit, Lit}
 use Rattle.tone.specs.Levels.{reinhard, mappedLevel}
-use Rattle.tone.specs.Pixels.{luminanceOf}
+use Rattle.luminance.specs.Pixels.{luminanceOf}
 use Rattle.page.specs.declared.body_levels.Levels.{Levels}
 use Rattle.page.specs.Tallying.{stripAverage}
 

@@ -8,13 +8,13 @@ use Rattle.refusal.specs.declared.Verdict.{Verdict}
 use Rattle.refusal.specs.declared.Verdict.the-variants.{Accepted, Refused}
 use Rattle.strip.specs.Checks.{checkStrip}
 use Rattle.strip.specs.Reading.{stripPixels}
-use Rattle.tone.specs.declared.average.Average.{Average}
-use Rattle.tone.specs.declared.luminance.Luminance.{Luminance}
-use Rattle.tone.specs.declared.luminance.Luminance.the-variants.{Unlit, Lit}
-use Rattle.tone.specs.declared.tally.Tally.{Tally}
-use Rattle.tone.specs.Averages.{averageOf}
-use Rattle.tone.specs.Pixels.{luminanceOf}
-use Rattle.tone.specs.Tallies.{tallyOf, withLuminance}
+use Rattle.average.specs.declared.average.Average.{Average}
+use Rattle.luminance.specs.declared.pixel.Luminance.{Luminance}
+use Rattle.luminance.specs.declared.pixel.Luminance.the-variants.{Unlit, Lit}
+use Rattle.average.specs.declared.tally.Tally.{Tally}
+use Rattle.average.specs.Averages.{averageOf}
+use Rattle.luminance.specs.Pixels.{luminanceOf}
+use Rattle.average.specs.Tallies.{tallyOf, withLuminance}
 use Rattle.page.specs.declared.tally.TallyOrRefusal.{TallyOrRefusal}
 use Rattle.page.specs.declared.tally.TallyOrRefusal.the-variants.{Holds, Refuses}
 

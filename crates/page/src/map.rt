@@ -8,10 +8,10 @@ ghost use Rattle.page.specs.Claims.{MapPromise};
 use crate::body_levels::body_levels;
 use crate::body_levels::clear_levels;
 use crate::body_tally::body_tally;
+use average::average::Average;
+use average::average::average_of;
 use refusal::Verdict;
 use strip::check::check_output;
-use tone::average::Average;
-use tone::average::average_of;
 use word::header::pixel_count;
 
 // Three level bytes a pixel, into the front of the output; a refusal leaves the output as it was.

@@ -3,12 +3,12 @@ ghost use mathlib.Core.Path.{_≡_};
 ghost use Rattle.page.specs.Tallying.{tallyStrip};
 ghost use Rattle.page.specs.Claims.{TallyPromise};
 use crate::body_tally::body_tally;
+use average::average::Average;
+use average::average::average_of;
+use average::tally::Tally;
 use refusal::Refusal;
 use refusal::Verdict;
 use strip::check::check;
-use tone::average::Average;
-use tone::average::average_of;
-use tone::tally::Tally;
 
 // The tally of an accepted strip with its average, or its refusal with the index where it was found, of which `outcome_of` tells
 // number and place.

@@ -3,8 +3,7 @@ use Prim.Native.Nat.{ℕ, _+_, _*_, _^_, _≤_, _<_}
 use native.Mathlib.Omega.{arith}
 use native.Mathlib.Nat.{le-of-mul-le-mul-left, lt-of-mul-lt-mul-left, lt-of-mul-lt-mul-right, mul-le-mul, mul-le-mul-left}
 use lib.Pow.{pow-add}
-use Rattle.number.proofs.Laws.{Frac, Positive, Near}
-use Rattle.tone.specs.Fractions.{_·_}
+use Rattle.number.proofs.Laws.{Frac, Positive, Near, _·_}
 
 -- x is at most y times (256/255)^n
 pub record AtMostBy (n : ℕ) (x y : Frac) : Type 0 where

@@ -15,6 +15,7 @@ use native.Mathlib.Omega.{arith}
 use lib.Dec.{lit<, lit≤}
 use lib.Pow.{pow-mono, pow-pos}
 use Rattle.number.proofs.Laws.{
+  storedWorth,
   Frac,
   _over_,
   Equal,
@@ -34,9 +35,9 @@ use Rattle.number.proofs.Laws.{
   stored-as,
 }
 use Rattle.number.specs.declared.ratio.Stored.{Stored}
-use Rattle.tone.specs.Levels.{IsScaled, reinhard, displayOf, storedWorth}
-use Rattle.tone.proofs.Powers.{power-difference}
-use Rattle.tone.proofs.Storables.{unitRatio, Storable, StoresAs, shut}
+use Rattle.tone.specs.Levels.{IsScaled, reinhard, displayOf}
+use Rattle.luminance.proofs.Products.{power-difference}
+use Rattle.luminance.proofs.Storables.{unitRatio, Storable, StoresAs, shut}
 
 -- L/(1+L) of v · 2^e units
 abbrev share : (v e : ℕ) → Frac

@@ -4,15 +4,14 @@ use Prim.Native.Nat.{ℕ, _+_, _*_, _^_, _<_}
 use native.Mathlib.Omega.{arith}
 use native.Mathlib.Nat.{add-comm, mul-le-mul-left, mul-pos}
 use lib.Pow.{pow-pos}
-use Rattle.number.proofs.Laws.{Frac, Positive, Near, worthOf, unit-pos}
+use Rattle.number.proofs.Laws.{Frac, Positive, Near, worthOf, unit-pos, _·_, _÷_, _times_, storedWorth}
 use Rattle.number.specs.declared.channel.Channel.{Channel}
 use Rattle.number.specs.declared.channel.Channel.the-variants.{Black, Lit}
 use Rattle.number.specs.declared.channel.Pixel.{Pixel}
 use Rattle.number.specs.declared.ratio.Stored.{Stored}
-use Rattle.tone.specs.Claims.{WithinHalves, LevelBound}
-use Rattle.tone.specs.Fractions.{_·_, _÷_, _times_, atMost255}
-use Rattle.tone.specs.Levels.{keyOverAverage, toLevel, levelOf, storedWorth}
-use Rattle.tone.specs.Pixels.{exactLuminance}
+use Rattle.tone.specs.Claims.{WithinHalves, LevelBound, atMost255}
+use Rattle.tone.specs.Levels.{keyOverAverage, toLevel, levelOf}
+use Rattle.luminance.specs.Pixels.{exactLuminance}
 use Rattle.tone.proofs.Close.{
   AtMostBy,
   Close,

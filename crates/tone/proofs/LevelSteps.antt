@@ -8,9 +8,8 @@ use Rattle.number.proofs.Laws.{Frac, _over_, unit, unit-pos, unit-power}
 use Rattle.number.specs.declared.channel.Channel.{Channel}
 use Rattle.number.specs.declared.channel.Channel.the-variants.{Black, Lit}
 use Rattle.number.specs.declared.ratio.Stored.{Stored}
-use Rattle.tone.specs.Fractions.{nearestWhole}
-use Rattle.tone.specs.Levels.{levelOf}
-use Rattle.tone.proofs.Powers.{power-difference}
+use Rattle.tone.specs.Levels.{levelOf, nearestWhole}
+use Rattle.luminance.proofs.Products.{power-difference}
 use Rattle.tone.proofs.Rounding.{nearest-equal}
 
 -- the larger power is the other and some places more

@@ -5,7 +5,7 @@ use Rattle.tone.specs.Levels.{reinhard}
 use Rattle.tone.proofs.Curves.{reinhard-ratio}
 use Rattle.tone.proofs.Displays.{display-stores}
 use Rattle.tone.proofs.LevelBounds.{pixel-bound}
-use Rattle.tone.proofs.Luminances.{luminance-range, luminance-stores}
+use Rattle.luminance.proofs.Luminances.{luminance-range, luminance-stores}
 use Rattle.tone.proofs.Scaled.{is-scaled, scaled-stores}
 
 pub level-bound : LevelIsBounded

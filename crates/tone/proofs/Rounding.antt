@@ -22,8 +22,8 @@ use native.Mathlib.Nat.{
   pow-le-pow-left,
 }
 use Rattle.number.proofs.Laws.{Frac, Equal}
-use Rattle.tone.specs.Claims.{WithinHalves}
-use Rattle.tone.specs.Fractions.{nearestWhole, atMost255}
+use Rattle.tone.specs.Claims.{WithinHalves, atMost255}
+use Rattle.tone.specs.Levels.{nearestWhole}
 use Rattle.tone.proofs.Close.{Close}
 
 -- (a − b)(d − c) ≥ 0, multiplied out

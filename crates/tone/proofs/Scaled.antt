@@ -6,6 +6,8 @@ use native.Mathlib.Omega.{arith}
 use lib.Dec.{T, leb, ltb, lit<}
 use lib.Pow.{pow-add, pow-pos}
 use Rattle.number.proofs.Laws.{
+  _·_,
+  storedWorth,
   Frac,
   twoTo,
   twoToMinus,
@@ -27,11 +29,11 @@ use Rattle.number.proofs.Laws.{
   stores-alike,
 }
 use Rattle.number.specs.declared.ratio.Stored.{Stored}
-use Rattle.tone.specs.Fractions.{_·_}
-use Rattle.tone.specs.Levels.{IsKey, IsStoredAverage, keyOverAverage, scaledOf, IsScaled, storedWorth}
-use Rattle.tone.specs.Pixels.{IsLuminance}
-use Rattle.tone.proofs.Powers.{power-difference, product-between}
-use Rattle.tone.proofs.Storables.{unitRatio, Storable, StoresAs}
+use Rattle.average.specs.Averages.{IsStoredAverage}
+use Rattle.tone.specs.Levels.{IsKey, keyOverAverage, scaledOf, IsScaled}
+use Rattle.luminance.specs.Pixels.{IsLuminance}
+use Rattle.luminance.proofs.Products.{power-difference, product-between}
+use Rattle.luminance.proofs.Storables.{unitRatio, Storable, StoresAs}
 
 module _ (K : ℕ) (y a : Stored) (key : IsKey K) (luminance : IsLuminance y) (average : IsStoredAverage a) where
   abbrev ratio : Frac

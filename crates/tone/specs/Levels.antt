@@ -1,24 +1,13 @@
 -- Steps 4 to 6: scaled luminance, display luminance, level. Assumes nothing.
-use Prim.Native.Nat.{ℕ, _+_, _≤_, min}
-use Rattle.number.proofs.Laws.{Frac, _over_, IsMantissa, worth, worthOf, storedOf}
+use Prim.Native.Nat.{ℕ, _+_, _*_, _/_, _≤_, min}
+use Rattle.number.proofs.Laws.{Frac, _over_, _·_, _÷_, _times_, IsMantissa, storedWorth, worthOf, storedOf}
 use Rattle.number.specs.declared.channel.Channel.{Channel}
 use Rattle.number.specs.declared.ratio.Stored.{Stored}
-use Rattle.tone.specs.Fractions.{_·_, _÷_, _times_, nearestWhole}
 
 -- "K is 0 or above 1,000" is refused
 pub record IsKey (K : ℕ) : Type 0 where
   pub least : 1 ≤ K
   pub most : K ≤ 1000
-
--- a stored average as step 3 gives it
-pub record IsStoredAverage (a : Stored) : Type 0 where
-  pub least : 67 ≤ a .exponent
-  pub most : a .exponent ≤ 184
-  pub mantissa : IsMantissa (a .mantissa)
-
--- what a stored number is worth
-abbrev pub storedWorth : Stored → Frac
-storedWorth s = worth (s .exponent) (s .mantissa)
 
 -- K/1000 over the average, decoded
 abbrev pub keyOverAverage : ℕ → Stored → Frac
@@ -41,6 +30,10 @@ reinhard L = L .num over L .den + L .num
 -- "Display luminance: L/(1+L) over the decoded L, stored"; `curve` is L/(1+L) as a function of L
 abbrev pub displayOf : (curve : Frac → Frac) → Stored → Stored
 displayOf curve l = storedOf (curve (storedWorth l))
+
+-- "to the nearest whole number, halves up": x + 1/2 rounded down
+abbrev pub nearestWhole : Frac → ℕ
+nearestWhole x = (2 * x .num + x .den) / (2 * x .den)
 
 -- 255 times x, "to the nearest whole number, halves up, at most 255"
 abbrev pub toLevel : Frac → ℕ

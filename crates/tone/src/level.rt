@@ -2,10 +2,10 @@
 ghost use mathlib.Core.Path.{_≡_};
 ghost use Prim.Native.Nat.{_*_, _^_, _≤_, _<_, min};
 ghost use Rattle.number.proofs.Laws.{_over_, unit, storedOf};
-ghost use Rattle.tone.specs.Fractions.{nearestWhole};
-ghost use Rattle.tone.specs.Levels.{IsKey, IsStoredAverage, scaledOf, IsScaled, reinhard, displayOf, levelOf};
-ghost use Rattle.tone.specs.Pixels.{IsLuminance};
-use crate::ratio::stored_ratio;
+ghost use Rattle.average.specs.Averages.{IsStoredAverage};
+ghost use Rattle.tone.specs.Levels.{IsKey, scaledOf, IsScaled, reinhard, displayOf, levelOf, nearestWhole};
+ghost use Rattle.luminance.specs.Pixels.{IsLuminance};
+use luminance::ratio::stored_ratio;
 use number::channel::Channel;
 use number::ratio::Stored;
 

@@ -1,8 +1,2 @@
-// The tone steps: the luminance of a pixel, the average of a page, the level of a channel.
-pub mod average;
-mod floor;
+// Steps 4 to 6: display luminance and the level of a channel.
 pub mod level;
-pub mod luminance;
-mod ratio;
-pub mod tables;
-pub mod tally;

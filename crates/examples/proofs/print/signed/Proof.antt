@@ -7,7 +7,7 @@ use lib.Signed.{mag}
 use mir.Syntax.{w64}
 use mir.Val.{toZ, ofZ}
 use mir.Facts.{toZ-ofZ}
-use Rattle.tone.proofs.Signed.{complement-neg, is-negative, is-natural, cast-fits, cast-is}
+use Rattle.average.proofs.Signed.{complement-neg, is-negative, is-natural, cast-fits, cast-is}
 use Rattle.examples.proofs.print.signed.Statement.{statement}
 use Rattle.examples.proofs.print.signed.Tie as tie
 

@@ -1,7 +1,7 @@
 -- `page::body_tally::with_pixel` meets its contract. Assumes nothing.
 use borrow.Author.Needs.{needs}
 use mathlib.Core.Path.{sym, _∙_}
-use Rattle.tone.proofs.Laws.{luminance-range}
+use Rattle.luminance.proofs.Laws.{luminance-range}
 use Rattle.page.proofs.body_tally.with_pixel.Statement.{statement}
 use Rattle.page.proofs.body_tally.with_pixel.Tie as tie
 

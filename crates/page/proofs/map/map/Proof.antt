@@ -8,7 +8,7 @@ use Rattle.refusal.specs.declared.Verdict.the-variants.{Accepted}
 use Rattle.strip.specs.Checks.{checkStrip}
 use Rattle.strip.specs.Output.{onto}
 use Rattle.strip.proofs.Limits.{Fits, output-limits, output-strip}
-use Rattle.tone.proofs.Laws.{reported-range}
+use Rattle.average.proofs.Laws.{reported-range}
 use Rattle.page.specs.Tallying.{stripAverage}
 use Rattle.page.proofs.Bounds.{left-alone, filled}
 use Rattle.page.proofs.Strips.{strip-sum, has-average, average-is, levels-absent, levels-present}

@@ -6,7 +6,7 @@ use native.Mathlib.Omega.{arith}
 use borrow.Author.Needs.{needs}
 use lib.Dec.{lit<}
 use Rattle.tone.proofs.Displays.{Divided, below-one, above-one}
-use Rattle.tone.proofs.Powers.{shift-most}
+use Rattle.luminance.proofs.Products.{shift-most}
 use Rattle.tone.proofs.level.divided.Statement.{statement}
 use Rattle.tone.proofs.level.divided.Tie as tie
 

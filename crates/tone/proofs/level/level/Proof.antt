@@ -4,7 +4,7 @@ use Prim.Native.Nat.{ℕ, _+_, _*_, _≤_}
 use native.Mathlib.Omega.{arith}
 use borrow.Author.Needs.{needs}
 use Rattle.tone.proofs.LevelSteps.{black-level, lit-level}
-use Rattle.tone.proofs.Powers.{product-between}
+use Rattle.luminance.proofs.Products.{product-between}
 use Rattle.tone.proofs.level.level.Statement.{statement}
 use Rattle.tone.proofs.level.level.Tie as tie
 

@@ -6,7 +6,7 @@ use native.Mathlib.Omega.{arith}
 use borrow.Author.Needs.{needs}
 use lib.Pow.{pow-pos}
 use Rattle.tone.proofs.LevelSteps.{full, dark, raised, lowered}
-use Rattle.tone.proofs.Powers.{shift-most}
+use Rattle.luminance.proofs.Products.{shift-most}
 use Rattle.tone.proofs.level.scaled_level.Statement.{statement}
 use Rattle.tone.proofs.level.scaled_level.Tie as tie
 

@@ -1,0 +1,59 @@
+-- Steps 2 and 3: the steps of a luminance, their average and the stored average. Assumes nothing.
+use mathlib.Core.Bool.{cond}
+use Prim.Native.Nat.{ℕ, _+_, _-_, _*_, _/_, _%_, _^_, _≤_, _<_}
+use lib.Dec.{eqb}
+use lib.IntN.{ℤ, pos, negsuc, negℤ, subℕ, natAbs, _+ℤ_}
+use lib.Signed.{_≤ℤ_}
+use Rattle.number.proofs.Laws.{IsMantissa}
+use Rattle.number.specs.declared.ratio.Stored.{Stored}
+use Rattle.average.specs.Tables.{logOf, rootOf}
+use Rattle.average.specs.declared.average.Average.{Average}
+use Rattle.average.specs.declared.average.Average.the-variants.{Absent, Present}
+
+-- "Steps of a lit pixel: 256(E−136) + T[M]."
+abbrev pub stepsOf : Stored → ℤ
+stepsOf y = subℕ (256 * y .exponent + logOf (y .mantissa)) (256 * 136)
+
+-- z divided by n, "rounded toward minus infinity"; `negsuc a` is −(a + 1)
+abbrev pub floorDiv : ℤ → ℕ → ℤ
+floorDiv (pos a) n = pos (a / n)
+floorDiv (negsuc a) n = negsuc (a / n)
+
+-- and what is left over, 0 to n − 1
+abbrev pub floorMod : ℤ → ℕ → ℕ
+floorMod (pos a) n = a % n
+floorMod (negsuc a) n = n - 1 - a % n
+
+-- "A = 256q + f, f 0 to 255. The stored average is (q+128, 255) if f = 0, else (q+129, X[f])". For the averages that there are, q + 128
+-- is positive.
+unfoldable pub storedAverage : ℤ → Stored
+storedAverage A =
+    cond (eqb (floorMod A 256) 0)
+    (record { exponent = natAbs (floorDiv A 256 +ℤ pos 128); mantissa = 255 })
+    (record { exponent = natAbs (floorDiv A 256 +ℤ pos 129); mantissa = rootOf (floorMod A 256) })
+
+-- "Average A: the sum of steps over the N lit pixels, divided by N", with the stored average. "If N = 0 .. the average is reported
+-- as absent".
+unfoldable pub averageOf : (count : ℕ) (sum : ℤ) → Average
+averageOf count sum = cond (eqb count 0) Absent (Present (floorDiv sum count) (storedAverage (floorDiv sum count)))
+
+-- the averages that there are: a luminance has from −15,630 to 14,335 steps
+pub record IsAverage (A : ℤ) : Type 0 where
+  pub least : negℤ (pos 15630) ≤ℤ A
+  pub most : A ≤ℤ pos 14335
+
+-- the average of count and sum, where there is one, lies among them
+pub record HasAverage (count : ℕ) (sum : ℤ) : Type 0 where
+  pub in-range : 0 < count → IsAverage (floorDiv sum count)
+
+-- a sum of the steps of at most 2^40 luminances
+pub record IsSum (count : ℕ) (sum : ℤ) : Type 0 where
+  pub few : count ≤ 2 ^ 40
+  pub least : negℤ (pos (15630 * count)) ≤ℤ sum
+  pub most : sum ≤ℤ pos (14335 * count)
+
+-- a stored average as step 3 gives it
+pub record IsStoredAverage (a : Stored) : Type 0 where
+  pub least : 67 ≤ a .exponent
+  pub most : a .exponent ≤ 184
+  pub mantissa : IsMantissa (a .mantissa)

@@ -1,0 +1,4 @@
+pub mod Tables
+pub mod Averages
+pub mod Tallies
+pub mod Claims

@@ -1,0 +1,4 @@
+-- The laws of luminances for the crates above. Assumes nothing.
+
+-- the luminance of a lit pixel is what is stored of its exact luminance, and lies from (67,246) to (184,255)
+pub use Rattle.luminance.proofs.Luminances.{luminance-stores, luminance-range}

@@ -1,0 +1,8 @@
+-- for the crates above
+pub mod Laws
+pub mod Products
+pub mod Storables
+-- sums cut short, and the luminance
+pub mod Sticky
+pub mod CutSums
+pub mod Luminances

@@ -1,0 +1,3 @@
+// Step 1: the luminance of a pixel.
+pub mod pixel;
+pub mod ratio;
