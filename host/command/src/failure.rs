@@ -1,0 +1,41 @@
+//! How a run fails: the library refuses, or something outside it is wrong.
+
+use dofnihet::Refusal;
+use std::ffi::OsStr;
+use std::fmt;
+use std::io;
+
+#[derive(Debug)]
+pub enum Failure {
+    Refused(Refusal),
+    Wrong(String),
+}
+
+impl Failure {
+    pub fn status(&self) -> u8 {
+        match self {
+            Failure::Refused(_) => 1,
+            Failure::Wrong(_) => 2,
+        }
+    }
+
+    /// What could not be done with a file.
+    pub fn file(act: &str, path: &OsStr, error: io::Error) -> Failure {
+        Failure::Wrong(format!("cannot {act} {}: {error}", path.display()))
+    }
+}
+
+impl fmt::Display for Failure {
+    fn fmt(&self, f: &mut fmt::Formatter) -> fmt::Result {
+        match self {
+            Failure::Refused(refusal) => write!(f, "{refusal} {}", refusal.word()),
+            Failure::Wrong(text) => write!(f, "dofnihet: {text}"),
+        }
+    }
+}
+
+impl From<Refusal> for Failure {
+    fn from(refusal: Refusal) -> Failure {
+        Failure::Refused(refusal)
+    }
+}

@@ -1,0 +1,77 @@
+//! What --help prints.
+
+pub const ALL: &str = "\
+Dofnihet stores a high-dynamic-range page as a strip of 32-bit words, tallies its brightness and maps it to 24-bit levels.
+
+    dofnihet convert rgbe|half|single|stored --width W --height H --key K SOURCE STRIP
+    dofnihet convert pfm --key K SOURCE STRIP
+    dofnihet tally STRIP
+    dofnihet map STRIP PICTURE
+    dofnihet row STRIP Y OUTPUT
+    dofnihet info STRIP
+    dofnihet COMMAND --help
+
+- stands for standard input or output; a file whose name begins with - is written ./-name. An output file appears whole or not
+at all, and only where everything is accepted.
+
+Exit status: 0 accepted; 1 refused, with a line such as 'refused 3 0 wrong length' (number, place, word) on standard error;
+2 wrong usage, a file that cannot be read or written, or no PFM file.
+";
+
+pub const CONVERT: &str = "\
+dofnihet convert rgbe|half|single|stored --width W --height H --key K SOURCE STRIP
+dofnihet convert pfm --key K SOURCE STRIP
+
+Converts a source picture into a strip: a file of 32-bit words, little-endian.
+
+    rgbe      four bytes a pixel: R, G, B and the common exponent
+    half      three IEEE 754 halves a pixel, little-endian; zero and negative numbers become black
+    single    three IEEE 754 singles a pixel, little-endian; likewise
+    stored    three stored channels a pixel, 256 * exponent + mantissa each or 0 for black, 16 bits, little-endian
+    pfm       Netpbm's float map, PF or Pf (grey: three equal channels), in either byte order
+
+The first four have nothing before the elements, which run left to right, top row first. A PFM file has the bottom row first; it is
+turned. Of its scale only the sign is used, which tells the byte order; no float is multiplied by it.
+
+W and H are 1 to 8192, W * H at most 16777216. K, the key in thousandths, is 1 to 1000; 180 is usual.
+
+The place of a refusal counts elements from 0 at the top left; RGBE elements are bytes, PFM elements are three floats a pixel in
+either kind.
+";
+
+pub const TALLY: &str = "\
+dofnihet tally STRIP
+
+Prints the number of lit pixels, the sum of their steps, the average in steps, 256 to a power of two, and the average as stored
+exponent and mantissa:
+
+    lit 2
+    sum -258
+    average -129
+    stored 128 180
+
+Where no pixel is lit, the third line is 'average absent' and the last.
+";
+
+pub const MAP: &str = "\
+dofnihet map STRIP PICTURE
+
+Maps a strip to levels from 0 to 255 and writes them as a Netpbm P6 picture.
+";
+
+pub const ROW: &str = "\
+dofnihet row STRIP Y OUTPUT
+
+Writes the words of row Y, counted from 0 at the top: red, green and blue of each pixel, 32 bits, little-endian.
+";
+
+pub const INFO: &str = "\
+dofnihet info STRIP
+
+Checks a strip and prints its width, height, key and number of pixels:
+
+    width 2
+    height 1
+    key 180
+    pixels 2
+";

@@ -1,0 +1,62 @@
+//! Wrong usage, and help.
+
+use crate::common::{text, wrong};
+
+#[test]
+fn wrong_usage() {
+    let flat = ["convert", "half", "--width", "2", "--height", "1", "--key", "180", "-", "-"];
+    let without = |at: usize| [&flat[..at], &flat[at + 2..]].concat();
+    let with = |at: usize, word| {
+        let mut arguments = flat.to_vec();
+        arguments[at] = word;
+        arguments
+    };
+    let cases: Vec<(Vec<&str>, &str)> = vec![
+        (vec![], "no command; see dofnihet --help"),
+        (vec!["chart"], "no command chart; see dofnihet --help"),
+        (vec!["-h"], "no command -h; see"),
+        (vec!["convert"], "wanted: a kind, a source and a strip; see dofnihet convert --help"),
+        (flat[..9].to_vec(), "wanted: a kind, a source and a strip; see"),
+        ([&flat[..], &["-"]].concat(), "wanted: a kind, a source and a strip; see"),
+        (with(1, "exr"), "no kind exr; see"),
+        (without(2), "--width is missing; see"),
+        (without(4), "--height is missing; see"),
+        (without(6), "--key is missing; see"),
+        (with(3, "two"), "--width is no whole number: two; see"),
+        (with(5, "-1"), "--height is no whole number: -1; see"),
+        (with(7, "0.18"), "--key is no whole number: 0.18; see"),
+        (with(7, "+180"), "--key is no whole number: +180; see"),
+        (with(7, ""), "--key is no whole number: ; see"),
+        (with(2, "--breadth"), "no option --breadth; see"),
+        (with(2, "--key"), "--key is given twice; see"),
+        ([&flat[..], &["--key"]].concat(), "--key has no number; see"),
+        (with(1, "pfm"), "a PFM file tells its width and height itself; see"),
+        (vec!["convert", "pfm", "-", "-"], "--key is missing; see"),
+        (vec!["tally"], "wanted: a strip; see dofnihet tally --help"),
+        (vec!["tally", "-", "-"], "wanted: a strip; see"),
+        (vec!["tally", "--key", "180", "-"], "no option --key; see"),
+        (vec!["info"], "wanted: a strip; see dofnihet info --help"),
+        (vec!["map", "-"], "wanted: a strip and a picture; see dofnihet map --help"),
+        (
+            vec!["row", "-", "0"],
+            "wanted: a strip, a row number and an output; see dofnihet row --help",
+        ),
+        (vec!["row", "-", "top", "-"], "the row number is no whole number: top; see"),
+    ];
+    for (arguments, beginning) in cases {
+        wrong(&arguments, &[], beginning);
+    }
+}
+
+#[test]
+fn help() {
+    let all = text(&["--help"], &[]);
+    for command in ["convert", "tally", "map", "row", "info"] {
+        let help = text(&[command, "--help"], &[]);
+        let usage = help.lines().next().unwrap();
+        assert!(usage.starts_with(&format!("dofnihet {command} ")), "{usage}");
+        assert!(all.contains(&format!("    {usage}\n")), "{usage}");
+        assert_eq!(text(&[command, "-", "--key", "--help"], &[]), help);
+    }
+    assert!(text(&["convert", "--help"], &[]).contains("no float is multiplied by it"));
+}
