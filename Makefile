@@ -1,4 +1,4 @@
-.PHONY: test run
+.PHONY: test run staticlib bench
 
 # Every test and every proof, from nothing.
 test:
@@ -9,3 +9,11 @@ run:
 	rt check picture
 	target/bin/picture < samples/relief.strip > target/relief.ppm
 	@echo "The sample page is mapped: $(CURDIR)/target/relief.ppm"
+
+# The library for C and Rust programs, proved and built: target/staticlib/libdofnihet.a.
+staticlib:
+	rt staticlib dofnihet
+
+# The library's times beside the double precision method's: docs/BENCHMARK.md.
+bench: staticlib
+	cargo run --release --manifest-path host/Cargo.toml -p bench
