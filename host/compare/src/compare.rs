@@ -1,0 +1,362 @@
+//! Each call made on both sides, and every field and element compared.
+
+use crate::calls::Calls;
+use crate::counts::Counts;
+use crate::elements::Elements;
+use crate::lent::{Element, Lent};
+use dofnihet::raw::{Header as RawHeader, Outcome, Row, Tally};
+use dofnihet::{Header, Source};
+use second::{Refusal, Rules, SecondStep};
+use std::fmt;
+
+/// Number and place of what both answered; both are 0 where a call accepts.
+pub type Told = (u64, u64);
+
+pub const ACCEPTED: Told = (0, 0);
+
+/// The first difference that was seen.
+pub struct Difference(pub String);
+
+impl fmt::Debug for Difference {
+    fn fmt(&self, f: &mut fmt::Formatter) -> fmt::Result {
+        f.write_str(&self.0)
+    }
+}
+
+/// Fails with the seed where a difference was seen.
+#[track_caller]
+pub fn same<T>(seed: u64, answer: Result<T, Difference>) -> T {
+    match answer {
+        Ok(t) => t,
+        Err(difference) => panic!("seed {seed}: {difference:?}"),
+    }
+}
+
+pub struct Compare<'a> {
+    calls: &'a dyn Calls,
+    second: SecondStep,
+    pub counts: Counts,
+    /// The first half of demand 3 is checked on each page of at most so many lit pixels.
+    pub mean_limit: u64,
+    salt: u64,
+}
+
+impl<'a> Compare<'a> {
+    pub fn new(calls: &'a dyn Calls) -> Compare<'a> {
+        Compare {
+            calls,
+            second: SecondStep::new(Rules::BASE),
+            counts: Counts::none(),
+            mean_limit: 12,
+            salt: 0,
+        }
+    }
+
+    /// Converting into an output of so many words; the strip is the outcome where both accept.
+    pub fn convert_into(&mut self, source: Source, header: Header, room: usize) -> Result<(Told, Vec<u32>), Difference> {
+        let Header { width, height, key } = header;
+        let asked = second::Header {
+            width,
+            height,
+            key,
+            white: None,
+        };
+        let expected = self.second.convert(second_source(source), asked, room);
+        let read = Elements::copy(source);
+        let mut output = self.lend::<u32>(room);
+        let outcome = self.calls.convert(read.source(), header, output.output());
+        let what = || format!("convert {} of {}, room {room}", show_source(source), show(&header));
+        let told = self.outcome(&expected, outcome, &what)?;
+        let strip = expected.unwrap_or_default();
+        output.holds(&strip).map_err(|fault| different(&what, fault))?;
+        unchanged(&Elements::copy(source), std::hint::black_box(&read), &what)?;
+        Ok((told, strip))
+    }
+
+    /// Converting into outputs longer than needed, exact, too short by one, and empty.
+    pub fn convert(&mut self, source: Source, header: Header) -> Result<(Told, Vec<u32>), Difference> {
+        let (told, strip) = self.convert_into(source, header, source_room(source) + 7)?;
+        let needed = if told == ACCEPTED { strip.len() } else { source_room(source) };
+        for room in other_rooms(needed) {
+            self.convert_into(source, header, room)?;
+        }
+        Ok((told, strip))
+    }
+
+    pub fn check(&mut self, strip: &[u32]) -> Result<Told, Difference> {
+        let expected = self.second.check(strip);
+        let read = strip.to_vec();
+        let outcome = self.calls.check(&read);
+        let what = || format!("check {}", show_strip(strip));
+        unchanged(strip, std::hint::black_box(&read), &what)?;
+        self.outcome(&expected, outcome, &what)
+    }
+
+    pub fn header(&mut self, strip: &[u32]) -> Result<Told, Difference> {
+        let expected = self.second.header(strip);
+        let (number, place) = told(&expected);
+        let (width, height, key) = expected.map_or((0, 0, 0), |h| (h.width, h.height, h.key));
+        let read = strip.to_vec();
+        let answer = self.calls.header(&read);
+        let what = || format!("header of {}", show_strip(strip));
+        unchanged(strip, std::hint::black_box(&read), &what)?;
+        let expected = RawHeader {
+            number,
+            place,
+            width,
+            height,
+            key,
+        };
+        self.count((number, place));
+        equal(&expected, &answer, &what)?;
+        Ok((number, place))
+    }
+
+    pub fn row(&mut self, strip: &[u32], y: u64) -> Result<Told, Difference> {
+        let expected = self.second.row(strip, y);
+        let (number, place) = told(&expected);
+        let part = expected.unwrap_or(0..0);
+        let read = strip.to_vec();
+        let answer = self.calls.row(&read, y);
+        let what = || format!("row {y} of {}", show_strip(strip));
+        unchanged(strip, std::hint::black_box(&read), &what)?;
+        let expected = Row {
+            number,
+            place,
+            start: part.start as u64,
+            length: part.len() as u64,
+        };
+        self.count((number, place));
+        equal(&expected, &answer, &what)?;
+        Ok((number, place))
+    }
+
+    /// The tally, as the library told it.
+    pub fn tally(&mut self, strip: &[u32]) -> Result<Tally, Difference> {
+        let expected = raw_tally(&self.second.tally(strip));
+        let read = strip.to_vec();
+        let answer = self.calls.tally(&read);
+        let what = || format!("tally of {}", show_strip(strip));
+        unchanged(strip, std::hint::black_box(&read), &what)?;
+        self.count((expected.number, expected.place));
+        equal(&expected, &answer, &what)?;
+        Ok(answer)
+    }
+
+    /// Unpacking into an output of so many elements.
+    pub fn unpack(&mut self, strip: &[u32], room: usize) -> Result<Told, Difference> {
+        let expected = self.second.unpack(strip, room);
+        let read = strip.to_vec();
+        let mut output = self.lend::<u16>(room);
+        let outcome = self.calls.unpack(&read, output.output());
+        let what = || format!("unpack {}, room {room}", show_strip(strip));
+        unchanged(strip, std::hint::black_box(&read), &what)?;
+        let told = self.outcome(&expected, outcome, &what)?;
+        output
+            .holds(&expected.unwrap_or_default())
+            .map_err(|fault| different(&what, fault))?;
+        Ok(told)
+    }
+
+    /// Mapping into an output of so many bytes; the levels as the library left them, none where both refuse.
+    pub fn map(&mut self, strip: &[u32], room: usize) -> Result<(Told, Vec<u8>), Difference> {
+        let expected = self.second.levels(strip, room);
+        let read = strip.to_vec();
+        let mut output = self.lend::<u8>(room);
+        let outcome = self.calls.map(&read, output.output());
+        let what = || format!("map {}, room {room}", show_strip(strip));
+        unchanged(strip, std::hint::black_box(&read), &what)?;
+        let told = self.outcome(&expected, outcome, &what)?;
+        let levels = expected.unwrap_or_default();
+        output.holds(&levels).map_err(|fault| different(&what, fault))?;
+        Ok((told, output.front(levels.len()).to_vec()))
+    }
+
+    /// Every call on a strip, with several rows and outputs, and demand 3 where the page is lit.
+    pub fn strip(&mut self, strip: &[u32]) -> Result<Told, Difference> {
+        let told = self.check(strip)?;
+        self.header(strip)?;
+        for y in rows(strip) {
+            self.row(strip, y)?;
+        }
+        let tally = self.tally(strip)?;
+        let needed = strip.len().saturating_sub(3);
+        self.unpack(strip, needed + 7)?;
+        let (_, levels) = self.map(strip, needed + 7)?;
+        for room in other_rooms(needed) {
+            self.unpack(strip, room)?;
+            self.map(strip, room)?;
+        }
+        if told == ACCEPTED {
+            self.demand(strip, &tally, &levels)?;
+        }
+        Ok(told)
+    }
+
+    /// Demand 3 on an accepted page, with the average and levels that the library told.
+    pub fn demand(&mut self, strip: &[u32], tally: &Tally, levels: &[u8]) -> Result<(), Difference> {
+        self.counts.pages += 1;
+        self.counts.pixels += levels.len() as u64 / 3;
+        if tally.present == 0 {
+            return Ok(());
+        }
+        self.distances(strip, tally, levels)?;
+        if tally.lit <= self.mean_limit {
+            self.mean(strip, tally.average)?;
+        }
+        Ok(())
+    }
+
+    /// The second half of demand 3.
+    pub fn distances(&mut self, strip: &[u32], tally: &Tally, levels: &[u8]) -> Result<(), Difference> {
+        let average = second::Average {
+            steps: tally.average,
+            exponent: tally.exponent as u8,
+            mantissa: tally.mantissa as u8,
+        };
+        let distances = self.second.level_distances(strip, average, levels);
+        self.counts.levels += distances.compared;
+        self.counts.worst = self.counts.worst.max(distances.worst);
+        match distances.first_failure {
+            None if distances.compared == 3 * tally.lit => Ok(()),
+            None => Err(Difference(format!(
+                "{} levels measured of {}",
+                distances.compared,
+                show_strip(strip)
+            ))),
+            Some(i) => Err(Difference(format!(
+                "level {i} is too far from the exact value: {}",
+                show_strip(strip)
+            ))),
+        }
+    }
+
+    /// The first half of demand 3.
+    pub fn mean(&mut self, strip: &[u32], average: i64) -> Result<(), Difference> {
+        self.counts.mean(self.second.mean_above(strip, average));
+        match self.second.mean_holds(strip, average) {
+            true => Ok(()),
+            false => Err(Difference(format!("average {average} is not that of {}", show_strip(strip)))),
+        }
+    }
+
+    fn lend<T: Element>(&mut self, room: usize) -> Lent<T> {
+        self.salt += 1;
+        Lent::new(room, self.salt.wrapping_mul(0xD6E8_FEB8_6659_FD93))
+    }
+
+    fn count(&mut self, told: Told) {
+        self.counts.calls += 1;
+        self.counts.refused += (told != ACCEPTED) as u64;
+    }
+
+    fn outcome<T>(&mut self, expected: &Result<T, Refusal>, outcome: Outcome, what: &dyn Fn() -> String) -> Result<Told, Difference> {
+        let told = told(expected);
+        self.count(told);
+        equal(&told, &(outcome.number, outcome.place), what)?;
+        Ok(told)
+    }
+}
+
+fn told<T>(answer: &Result<T, Refusal>) -> Told {
+    match answer {
+        Ok(_) => ACCEPTED,
+        Err(refusal) => (refusal.number, refusal.place),
+    }
+}
+
+/// The eight fields of a tally; free fields are 0.
+pub fn raw_tally(answer: &Result<second::Tally, Refusal>) -> Tally {
+    let (number, place) = told(answer);
+    let (lit, sum) = answer.as_ref().map_or((0, 0), |t| (t.lit, t.sum));
+    let average = answer.as_ref().ok().and_then(|t| t.average.as_ref());
+    Tally {
+        number,
+        place,
+        lit,
+        sum,
+        present: average.is_some() as u64,
+        average: average.map_or(0, |a| a.steps),
+        exponent: average.map_or(0, |a| a.exponent as u64),
+        mantissa: average.map_or(0, |a| a.mantissa as u64),
+    }
+}
+
+pub fn second_source(source: Source) -> second::Source {
+    match source {
+        Source::Rgbe(list) => second::Source::Rgbe(list),
+        Source::Half(list) => second::Source::Half(list),
+        Source::Single(list) => second::Source::Single(list),
+        Source::Stored(list) => second::Source::Stored(list),
+    }
+}
+
+/// Words that the strip of a source of this length needs.
+fn source_room(source: Source) -> usize {
+    let pixels = match source {
+        Source::Rgbe(list) => list.len() / 4,
+        Source::Half(list) | Source::Stored(list) => list.len() / 3,
+        Source::Single(list) => list.len() / 3,
+    };
+    dofnihet::strip_length(pixels)
+}
+
+/// Outputs beside the longer one: exact, too short by one, empty; on a long page only too short by one.
+fn other_rooms(needed: usize) -> Vec<usize> {
+    match needed {
+        0 => vec![0],
+        1..=10_000 => vec![needed, needed - 1, 0],
+        _ => vec![needed - 1],
+    }
+}
+
+/// Rows to ask for: of a short strip all up to eight and numbers far above; of a long one the last and the one after.
+fn rows(strip: &[u32]) -> Vec<u64> {
+    let height = strip.first().map_or(0, |word| (word & 0x3FFF) as u64);
+    let last = height.saturating_sub(1);
+    if strip.len() > 10_000 {
+        return vec![last, height];
+    }
+    let mut rows: Vec<u64> = (0..height.min(8)).collect();
+    rows.extend([height / 2, last, height, height + 1, 1 << 32, (1 << 32) + last, 1 << 63, u64::MAX]);
+    rows
+}
+
+fn different(what: &dyn Fn() -> String, fault: String) -> Difference {
+    Difference(format!("{}: {fault}", what()))
+}
+
+fn equal<T: PartialEq + fmt::Debug>(second: &T, library: &T, what: &dyn Fn() -> String) -> Result<(), Difference> {
+    match second == library {
+        true => Ok(()),
+        false => Err(different(
+            what,
+            format!("the library tells {library:?}, the second step {second:?}"),
+        )),
+    }
+}
+
+/// Whether memory that was only to be read is as it was.
+pub fn unchanged<T: PartialEq + ?Sized>(before: &T, after: &T, what: &dyn Fn() -> String) -> Result<(), Difference> {
+    match before == after {
+        true => Ok(()),
+        false => Err(different(what, "memory to be read was changed".to_string())),
+    }
+}
+
+fn show(header: &Header) -> String {
+    format!("{} x {} key {}", header.width, header.height, header.key)
+}
+
+/// The start of a source.
+pub fn show_source(source: Source) -> String {
+    let mut text = format!("{source:x?}");
+    text.truncate(400);
+    text
+}
+
+/// The start of a strip.
+pub fn show_strip(strip: &[u32]) -> String {
+    let words: Vec<String> = strip.iter().take(40).map(|word| format!("{word:08X}")).collect();
+    format!("strip of {} words {}", strip.len(), words.join(" "))
+}

@@ -1,0 +1,23 @@
+//! The proved library held against the second tone step, call by call, through the C interface. Generators of pages, sources, faults and
+//! damage; comparisons that see every field and every element of lent memory; demand 3 of document 01 on each lit page.
+
+pub mod calls;
+pub mod compare;
+pub mod counts;
+pub mod damage;
+pub mod elements;
+pub mod lent;
+pub mod limits;
+pub mod pages;
+pub mod powers;
+pub mod program;
+pub mod random;
+pub mod rounds;
+pub mod source_faults;
+pub mod strip_faults;
+pub mod values;
+
+pub use calls::{Calls, Library};
+pub use compare::{same, Compare, Difference, Told};
+pub use elements::{Elements, Kind};
+pub use random::Random;

@@ -1,0 +1,149 @@
+//! One round: new pages, sources, damage and faults from one seed, each compared.
+
+use crate::compare::{show_source, show_strip, Compare, Difference, Told, ACCEPTED};
+use crate::elements::{Elements, KINDS};
+use crate::pages::Page;
+use crate::program::{self, Printed};
+use crate::random::Random;
+use crate::{damage, pages, source_faults, strip_faults, values};
+use dofnihet::Header;
+
+pub fn round(compare: &mut Compare, seed: u64) -> Result<(), Difference> {
+    let random = &mut Random::new(seed);
+    page(compare, random)?;
+    for _ in 0..4 {
+        source(compare, random)?;
+    }
+    source_fault(compare, random)?;
+    for _ in 0..4 {
+        strip_fault(compare, random)?;
+    }
+    Ok(())
+}
+
+/// A page of some look: its strip, the same from a stored source, and damaged.
+fn page(compare: &mut Compare, random: &mut Random) -> Result<(), Difference> {
+    let (width, height) = match random.below(400) {
+        0 => (random.between(1, 8192), random.between(1, 32)),
+        1 => (random.between(1, 32), random.between(1, 8192)),
+        2..=30 => (random.between(1, 200), random.between(1, 60)),
+        _ => pages::small_size(random),
+    };
+    let look = random.pick(&pages::LOOKS);
+    let page = pages::page(random, look, width, height);
+    let strip = page.strip();
+    compare.strip(&strip)?;
+    let made = compare.convert(Elements::Stored(page.channels.clone()).source(), page.header())?;
+    if made != (ACCEPTED, strip.clone()) {
+        return Err(Difference(format!(
+            "stored channels became another strip than {}",
+            show_strip(&strip)
+        )));
+    }
+    for _ in 0..6 {
+        compare.strip(&damage::random(random, &strip))?;
+    }
+    Ok(())
+}
+
+/// A source of each kind, sound or with wild elements, and its strip.
+fn source(compare: &mut Compare, random: &mut Random) -> Result<(), Difference> {
+    for kind in KINDS {
+        let (width, height) = pages::small_size(random);
+        let made = match random.one_in(3) {
+            true => values::wild(random, kind, width * height),
+            false => values::accepted(random, kind, width * height),
+        };
+        let header = pages::header(width, height, pages::key(random));
+        converted(compare, &made, header)?;
+    }
+    Ok(())
+}
+
+/// A source, and its strip where it is accepted: beside the second step, the list, and the page written out from its channels.
+pub fn converted(compare: &mut Compare, elements: &Elements, header: Header) -> Result<Told, Difference> {
+    let (told, strip) = compare.convert(elements.source(), header)?;
+    if told != values::first_refusal(elements).unwrap_or(ACCEPTED) {
+        return Err(Difference(format!(
+            "the list does not tell {told:?} for {}",
+            show_source(elements.source())
+        )));
+    }
+    if told == ACCEPTED {
+        if strip != Page::new(header, values::channels(elements)).strip() {
+            return Err(Difference(format!("not the strip of {}", show_source(elements.source()))));
+        }
+        compare.strip(&strip)?;
+    }
+    Ok(told)
+}
+
+/// The picture program on a page that fits, sound, damaged, or cut anywhere.
+pub fn picture(printed: &mut Printed, seed: u64) -> Result<(), Difference> {
+    let random = &mut Random::new(!seed);
+    let (width, height) = match random.below(20) {
+        0 => (random.between(1, 84), random.between(1, 65)),
+        _ => pages::small_size(random),
+    };
+    let look = random.pick(&pages::LOOKS);
+    let strip = pages::page(random, look, width, height).strip();
+    let mut bytes = match random.below(3) {
+        0 => program::bytes(&damage::random(random, &strip)),
+        _ => program::bytes(&strip),
+    };
+    if random.one_in(8) {
+        bytes.truncate(random.below(bytes.len() as u64 + 1) as usize);
+    }
+    printed.same(&bytes).map(|_| ())
+}
+
+/// Up to three faults of a source at once.
+fn source_fault(compare: &mut Compare, random: &mut Random) -> Result<(), Difference> {
+    for kind in KINDS {
+        let mut list = some(random, &source_faults::faults(kind));
+        list.dedup_by(|one, other| !source_faults::together(*one, *other));
+        let case = source_faults::Case::sound(kind).with(&list);
+        let (told, _) = compare.convert_into(case.elements.source(), case.header, case.room)?;
+        if told != source_faults::first(&list) {
+            return Err(Difference(format!("the list does not tell {told:?} for {list:?}")));
+        }
+    }
+    Ok(())
+}
+
+/// Up to three faults of a strip at once.
+fn strip_fault(compare: &mut Compare, random: &mut Random) -> Result<(), Difference> {
+    let mut list = some(random, &strip_faults::faults());
+    list.dedup_by(|one, other| !strip_faults::together(*one, *other));
+    strip_fault_case(compare, &list)
+}
+
+/// Every call on a strip with these faults, and what the list tells each.
+pub fn strip_fault_case(compare: &mut Compare, list: &[strip_faults::Fault]) -> Result<(), Difference> {
+    use strip_faults::{first, Asked, Case};
+    let Case { strip, y, room } = Case::sound().with(list);
+    let tally = compare.tally(&strip)?;
+    let answers = [
+        (Asked::Strip, compare.check(&strip)?),
+        (Asked::Strip, compare.header(&strip)?),
+        (Asked::Strip, (tally.number, tally.place)),
+        (Asked::Row, compare.row(&strip, y)?),
+        (Asked::Output, compare.unpack(&strip, room)?),
+        (Asked::Output, compare.map(&strip, room)?.0),
+    ];
+    for (asked, told) in answers {
+        if told != first(list, asked) {
+            return Err(Difference(format!(
+                "the list does not tell {told:?} for {list:?}, asked for {asked:?}"
+            )));
+        }
+    }
+    Ok(())
+}
+
+/// One to three of the list, in its order.
+fn some<T: Copy>(random: &mut Random, list: &[T]) -> Vec<T> {
+    let mut places: Vec<u64> = (0..random.between(1, 3)).map(|_| random.below(list.len() as u64)).collect();
+    places.sort_unstable();
+    places.into_iter().map(|place| list[place as usize]).collect()
+}

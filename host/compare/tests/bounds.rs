@@ -1,0 +1,108 @@
+//! Demand 3: the first half on pages of up to 2,000 lit pixels, and pages that drive both halves to their limits.
+
+use compare::pages::{self, Look, Page, LOOKS};
+use compare::{limits, same, Compare, Library, Random};
+
+const SEED: u64 = 701;
+
+/// Pages of up to 120 pixels of each look.
+#[test]
+fn means_of_small_pages() {
+    let (random, mut compare) = (&mut Random::new(SEED), Compare::new(&Library));
+    compare.mean_limit = 2_000;
+    for (look, _) in LOOKS.iter().flat_map(|look| (0..12).map(move |i| (*look, i))) {
+        let (width, height) = (random.between(1, 12), random.between(1, 10));
+        let page = pages::page(random, look, width, height);
+        same(SEED, compare.strip(&page.strip()));
+    }
+    println!("means of small pages, seed {SEED}: {}", compare.counts);
+}
+
+/// A few of 500 to 2,000.
+#[test]
+fn means_of_long_pages() {
+    let (random, mut compare) = (&mut Random::new(SEED + 1), Compare::new(&Library));
+    compare.mean_limit = 2_000;
+    for (look, width, height) in [
+        (Look::Wide, 40, 50),
+        (Look::Near, 25, 40),
+        (Look::Mixed, 30, 40),
+        (Look::Single, 500, 1),
+    ] {
+        let page = pages::page(random, look, width, height);
+        same(SEED, compare.strip(&page.strip()));
+    }
+    println!("means of long pages, seed {}: {}", SEED + 1, compare.counts);
+}
+
+/// Pages of one mantissa throughout: the mean lies as far above the average as that entry of T lets it.
+#[test]
+fn means_of_flat_pages() {
+    let mut compare = Compare::new(&Library);
+    compare.mean_limit = 2_000;
+    for mantissa in 128..=255 {
+        for count in [1, 2, 7] {
+            let grey = [pages::stored(120, mantissa); 3];
+            same(0, compare.strip(&Page::row(180, &vec![grey; count]).strip()));
+        }
+    }
+    println!("means of flat pages: {}", compare.counts);
+}
+
+/// Greys that push the mean to a limit: their steps are cut by nearly a whole step each, or by hardly any, and so is the division.
+#[test]
+fn means_at_limits() {
+    let (random, mut compare) = (&mut Random::new(SEED + 3), Compare::new(&Library));
+    compare.mean_limit = 2_000;
+    for count in (2..60).chain([100, 200, 300]) {
+        for far in [false, true] {
+            same(SEED, compare.strip(&limits::page(random, count, far).strip()));
+        }
+    }
+    assert!(compare.counts.mean_low < 0.03 && compare.counts.mean_high > 1.95);
+    println!("means at limits, seed {}: {}", SEED + 3, compare.counts);
+}
+
+/// Levels of one bright or dim pixel among others, with each key at the limits, and saturated channels.
+#[test]
+fn levels_at_limits() {
+    let (random, mut compare) = (&mut Random::new(SEED + 2), Compare::new(&Library));
+    for key in [1, 2, 180, 999, 1000] {
+        for look in [
+            Look::Spark,
+            Look::Speck,
+            Look::Far,
+            Look::Single,
+            Look::Edges,
+            Look::Near,
+            Look::Powers,
+        ] {
+            for _ in 0..8 {
+                let mut page = pages::page(random, look, 60, 10);
+                page.key = key;
+                same(SEED, compare.strip(&page.strip()));
+            }
+        }
+    }
+    println!("levels at limits, seed {}: {}", SEED + 2, compare.counts);
+}
+
+/// The least luminance among the greatest and the other way round, with the keys that drive the scaled luminance to its limits.
+#[test]
+fn scaled_luminances_at_limits() {
+    let mut compare = Compare::new(&Library);
+    let (least, greatest) = ([0, 0, pages::DIM], [pages::BRIGHT; 3]);
+    for (common, odd, key) in [
+        (greatest, least, 1),
+        (least, greatest, 1000),
+        (greatest, least, 1000),
+        (least, greatest, 1),
+    ] {
+        for count in [2, 8, 100, 8192] {
+            let mut pixels = vec![common; count];
+            pixels[count / 2] = odd;
+            same(0, compare.strip(&Page::row(key, &pixels).strip()));
+        }
+    }
+    println!("scaled luminances at limits: {}", compare.counts);
+}

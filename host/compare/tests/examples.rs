@@ -1,0 +1,130 @@
+//! The worked examples of document 01 through the C interface. Every expected value is the paper's.
+
+use compare::pages::{header, stored, Page};
+use compare::{program, Calls, Elements, Library};
+
+/// The strip of a source of one row, or the refusal.
+fn strip(elements: &Elements, key: u64) -> Result<Vec<u32>, (u64, u64)> {
+    let pixels = elements.count() / elements.kind().of_pixel();
+    let mut output = vec![0; dofnihet::strip_length(pixels)];
+    let header = header(pixels as u64, 1, key);
+    let outcome = Library.convert(elements.source(), header, &mut output);
+    match outcome.number {
+        0 => Ok(output),
+        number => Err((number, outcome.place)),
+    }
+}
+
+/// The first channel of a source of one pixel; None is black.
+fn channel(elements: Elements) -> Result<Option<(u32, u32)>, (u64, u64)> {
+    let word = strip(&elements, 180)?[2];
+    assert_eq!(word >> 16, 0x4000);
+    Ok((word != 4 << 28).then_some((word >> 8 & 0xFF, word & 0xFF)))
+}
+
+fn half(bits: u16) -> Result<Option<(u32, u32)>, (u64, u64)> {
+    channel(Elements::Half(vec![bits, 0, 0]))
+}
+
+fn rgbe(byte: u8, e: u8) -> Result<Option<(u32, u32)>, (u64, u64)> {
+    channel(Elements::Rgbe(vec![byte, 0, 0, e]))
+}
+
+fn single(bits: u32) -> Result<Option<(u32, u32)>, (u64, u64)> {
+    channel(Elements::Single(vec![bits, 0, 0]))
+}
+
+fn levels(strip: &[u32]) -> Vec<u8> {
+    let mut levels = vec![0; strip.len() - 3];
+    assert_eq!(Library.map(strip, &mut levels).number, 0);
+    levels
+}
+
+fn greys(halves: &[u16]) -> Vec<u32> {
+    strip(&Elements::Half(halves.iter().flat_map(|half| [*half; 3]).collect()), 180).unwrap()
+}
+
+#[test]
+fn channels() {
+    assert_eq!(half(0x3C00), Ok(Some((128, 255))));
+    assert_eq!(half(0x3C01), Ok(Some((129, 128))));
+    assert_eq!(half(0x0001), Ok(Some((104, 255))));
+    assert_eq!(half(0x0003), Ok(Some((106, 192))));
+    assert_eq!(half(0x7BFF), Ok(Some((144, 255))));
+    assert_eq!(half(0x8000), Ok(None));
+    assert_eq!(half(0xFC00), Err((5, 0)));
+    assert_eq!(rgbe(1, 136), Ok(Some((129, 192))));
+    assert_eq!(rgbe(255, 71), Ok(None));
+    assert_eq!(rgbe(127, 185), Ok(Some((184, 255))));
+    assert_eq!(rgbe(128, 185), Err((6, 0)));
+    assert_eq!(single(0x2300_0000), Ok(None));
+    assert_eq!(single(0x2300_0001), Ok(Some((72, 128))));
+    assert_eq!(single(0x5B80_0000), Ok(Some((184, 255))));
+    assert_eq!(single(0x5B80_0001), Err((6, 0)));
+    println!("examples of channels: 15");
+}
+
+/// T[M], read from the sum of one grey pixel of exponent 136, whose luminance is the channel itself. X[128], read from the average of two
+/// greys with T[128] = 1793 and T[255] = 2047 steps: 1920 is 256 · 7 + 128.
+#[test]
+fn tables() {
+    for (mantissa, steps) in [(128, 1793), (192, 1942), (255, 2047)] {
+        let tally = Library.tally(&Page::row(180, &[[stored(136, mantissa); 3]]).strip());
+        assert_eq!((tally.lit, tally.sum), (1, steps));
+    }
+    let tally = Library.tally(&Page::row(180, &[[stored(136, 128); 3], [stored(136, 255); 3]]).strip());
+    assert_eq!((tally.average, tally.exponent, tally.mantissa), (1920, 136, 181));
+    println!("examples of tables: 4");
+}
+
+#[test]
+fn pages() {
+    let one = greys(&[0x3C00]);
+    let tally = Library.tally(&one);
+    assert_eq!((tally.lit, tally.average, tally.exponent, tally.mantissa), (1, -1, 128, 255));
+    assert_eq!(levels(&one), [39; 3]);
+
+    let two = greys(&[0x3C00, 0x3800]);
+    let tally = Library.tally(&two);
+    assert_eq!((tally.lit, tally.average, tally.exponent, tally.mantissa), (2, -129, 128, 180));
+    assert_eq!(levels(&two), [52, 52, 52, 29, 29, 29]);
+
+    let three = greys(&[0x3C00, 0x3C00, 0x3800]);
+    assert_eq!(Library.tally(&three).average, -87);
+
+    let bright = greys(&[0x7BFF, 0]);
+    let tally = Library.tally(&bright);
+    assert_eq!((tally.lit, tally.average), (1, 4095));
+    assert_eq!(levels(&bright), [39, 39, 39, 0, 0, 0]);
+
+    // Luminance (127,137), read from its steps.
+    let red = Elements::Half(vec![0x3C00, 0, 0]);
+    let steps = 256 * (127 - 136) + (256.0 * 137.5_f64.log2()).floor() as i64;
+    assert_eq!(Library.tally(&strip(&red, 180).unwrap()).sum, steps);
+    assert_eq!(levels(&strip(&red, 180).unwrap()), [145, 0, 0]);
+    assert_eq!(levels(&strip(&red, 1000).unwrap()), [255, 0, 0]);
+    println!("examples of pages: 6");
+}
+
+/// The picture program's page, word by word and byte by byte.
+#[test]
+fn picture() {
+    let strip = [
+        0x1000_8001,
+        0x2000_00B4,
+        0x4000_80FF,
+        0x5000_80FF,
+        0x6000_80FF,
+        0x4000_7FFF,
+        0x5000_7FFF,
+        0x6000_7FFF,
+        0x7000_0002,
+    ];
+    assert_eq!(greys(&[0x3C00, 0x3800]), strip);
+    let printed = [
+        0x50, 0x36, 0x0A, 0x32, 0x20, 0x31, 0x0A, 0x32, 0x35, 0x35, 0x0A, 0x34, 0x34, 0x34, 0x1D, 0x1D, 0x1D,
+    ];
+    assert_eq!([dofnihet::front(2, 1), levels(&strip)].concat(), printed);
+    assert_eq!(program::run(&program::bytes(&strip)), printed);
+    println!("example of the picture program: 1");
+}

@@ -1,0 +1,64 @@
+//! Each fault alone, and each pair of faults at once: which the list puts first.
+
+use compare::elements::KINDS;
+use compare::rounds::strip_fault_case;
+use compare::{pages, same, source_faults, strip_faults, Compare, Library, Random};
+
+/// Sources: each fault and each pair, for each kind.
+#[test]
+fn sources() {
+    let mut compare = Compare::new(&Library);
+    let mut cases = 0;
+    for kind in KINDS {
+        let list = source_faults::faults(kind);
+        let pairs = (0..list.len()).flat_map(|j| (0..=j).map(move |i| (i, j)));
+        for (i, j) in pairs.filter(|&(i, j)| i == j || source_faults::together(list[i], list[j])) {
+            let faults = if i == j { vec![list[i]] } else { vec![list[i], list[j]] };
+            let case = source_faults::Case::sound(kind).with(&faults);
+            let (told, _) = same(0, compare.convert_into(case.elements.source(), case.header, case.room));
+            assert_eq!(told, source_faults::first(&faults), "{kind:?} {faults:?}");
+            cases += 1;
+        }
+        let sound = source_faults::Case::sound(kind);
+        let (told, _) = same(0, compare.convert(sound.elements.source(), sound.header));
+        assert_eq!(told, (0, 0));
+    }
+    println!("faults of sources: {cases} cases, {}", compare.counts);
+}
+
+/// Strips: each fault and each pair, for every call.
+#[test]
+fn strips() {
+    let mut compare = Compare::new(&Library);
+    let list = strip_faults::faults();
+    let pairs = (0..list.len()).flat_map(|j| (0..=j).map(move |i| (i, j)));
+    let mut cases = 0;
+    for (i, j) in pairs.filter(|&(i, j)| i == j || strip_faults::together(list[i], list[j])) {
+        let faults = if i == j { vec![list[i]] } else { vec![list[i], list[j]] };
+        same(0, strip_fault_case(&mut compare, &faults));
+        cases += 1;
+    }
+    same(0, strip_fault_case(&mut compare, &[]));
+    println!("faults of strips: {cases} cases, {}", compare.counts);
+}
+
+/// Header numbers of any size: with 0, limits, powers of two and their neighbours on either side.
+#[test]
+fn header_numbers() {
+    const SEED: u64 = 601;
+    let (random, mut compare) = (&mut Random::new(SEED), Compare::new(&Library));
+    let mut list = vec![0, 1, 2, 3, 180, 1000, 1001, 4095, 4096, 4097, 8191, 8192, 8193, u64::MAX];
+    list.extend((10..64).flat_map(|bit| [(1 << bit) - 1, 1 << bit, (1 << bit) + 1]));
+    for kind in KINDS {
+        let sound = source_faults::Case::sound(kind);
+        for (width, height) in list.iter().flat_map(|w| list.iter().map(move |h| (*w, *h))) {
+            let key = if random.one_in(4) { random.pick(&list) } else { 180 };
+            let header = pages::header(width, height, key);
+            let (told, _) = same(SEED, compare.convert_into(sound.elements.source(), header, 15));
+            let fits = |side| (1..=8192).contains(&side);
+            let good_size = fits(width) && fits(height) && width * height <= 1 << 24;
+            assert_eq!(told.0 == 1, !good_size, "{header:?}");
+        }
+    }
+    println!("header numbers, seed {SEED}: {}", compare.counts);
+}

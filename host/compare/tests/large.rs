@@ -1,0 +1,142 @@
+//! One page of 16,777,216 pixels: converted, unpacked, tallied and mapped on both sides, and the second half of demand 3 on all of it.
+//! Pages of 1,048,576 pixels from the other sources.
+
+use compare::compare::raw_tally;
+use compare::lent::Lent;
+use compare::pages::{self, Look, Page};
+use compare::rounds::converted;
+use compare::{same, values, Calls, Compare, Kind, Library, Random};
+use dofnihet::raw::{Outcome, Tally};
+use dofnihet::Source;
+use second::{LevelDistances, Rules, SecondStep};
+use std::thread;
+
+const SEED: u64 = 1101;
+const WIDTH: u64 = 8192;
+const HEIGHT: u64 = 2048;
+const ACCEPTED: Outcome = Outcome { number: 0, place: 0 };
+
+/// Rows of different looks, so that exponents 72 to 184 stand side by side.
+fn large() -> Page {
+    let random = &mut Random::new(SEED);
+    let looks = [Look::Wide, Look::Near, Look::Far, Look::Mixed, Look::Powers, Look::Grey];
+    let mut channels = Vec::with_capacity(3 * (WIDTH * HEIGHT) as usize);
+    for y in 0..HEIGHT {
+        channels.extend(pages::page(random, looks[y as usize % looks.len()], WIDTH, 1).channels);
+    }
+    Page {
+        width: WIDTH,
+        height: HEIGHT,
+        key: 180,
+        channels,
+    }
+}
+
+/// What the library left in lent memory, longer than needed by five elements, and how far its levels lie from the exact values.
+struct ByLibrary {
+    outcomes: [Outcome; 3],
+    strip: Lent<u32>,
+    channels: Lent<u16>,
+    levels: Lent<u8>,
+    tally: Tally,
+    distances: LevelDistances,
+}
+
+fn by_library(step: &SecondStep, page: &Page, strip: &[u32]) -> ByLibrary {
+    let count = page.channels.len();
+    let (mut made, mut channels, mut levels) = (Lent::new(count + 8, 1), Lent::new(count + 5, 2), Lent::new(count + 5, 3));
+    let outcomes = [
+        Library.convert(Source::Stored(&page.channels), page.header(), made.output()),
+        Library.unpack(strip, channels.output()),
+        Library.map(strip, levels.output()),
+    ];
+    let tally = Library.tally(strip);
+    let average = second::Average {
+        steps: tally.average,
+        exponent: tally.exponent as u8,
+        mantissa: tally.mantissa as u8,
+    };
+    let distances = step.level_distances(strip, average, levels.front(count));
+    ByLibrary {
+        outcomes,
+        strip: made,
+        channels,
+        levels,
+        tally,
+        distances,
+    }
+}
+
+struct BySecond {
+    strip: Vec<u32>,
+    levels: Vec<u8>,
+    tally: Tally,
+}
+
+fn by_second(step: &SecondStep, page: &Page) -> BySecond {
+    let Page { width, height, key, .. } = *page;
+    let header = second::Header {
+        width,
+        height,
+        key,
+        white: None,
+    };
+    let strip = step
+        .convert(second::Source::Stored(&page.channels), header, page.channels.len() + 8)
+        .unwrap_or_default();
+    let levels = step.levels(&strip, page.channels.len()).unwrap_or_default();
+    let tally = raw_tally(&step.tally(&strip));
+    BySecond { strip, levels, tally }
+}
+
+/// Both sides at once.
+fn by_both(step: &SecondStep, page: &Page, strip: &[u32]) -> (ByLibrary, BySecond) {
+    thread::scope(|scope| {
+        let library = scope.spawn(|| by_library(step, page, strip));
+        let second = by_second(step, page);
+        (library.join().unwrap(), second)
+    })
+}
+
+#[test]
+fn a_page_of_all_pixels() {
+    let (page, step) = (large(), SecondStep::new(Rules::BASE));
+    let (strip, kept) = (page.strip(), page.clone());
+    let (library, second) = by_both(&step, &page, &strip);
+    assert_eq!(library.outcomes, [ACCEPTED; 3]);
+    assert!(second.strip == strip, "the second step converted it otherwise");
+    assert_eq!(second.levels.len(), page.channels.len());
+    library.strip.holds(&second.strip).unwrap();
+    library.channels.holds(&page.channels).unwrap();
+    library.levels.holds(&second.levels).unwrap();
+    assert_eq!(library.tally, second.tally);
+    assert!(
+        page.channels == kept.channels && page.strip() == strip,
+        "memory to be read was changed"
+    );
+    let LevelDistances {
+        compared,
+        worst,
+        first_failure,
+    } = library.distances;
+    assert_eq!((first_failure, compared), (None, 3 * library.tally.lit));
+    let Tally { lit, average, .. } = library.tally;
+    let pixels = WIDTH * HEIGHT;
+    println!("large page, seed {SEED}: {pixels} pixels, {lit} lit, average {average}, {compared} levels within {worst:.4}");
+}
+
+/// A page of 2^20 pixels and its strip through every call.
+fn source(compare: &mut Compare, kind: Kind, width: u64) {
+    let elements = values::accepted(&mut Random::new(SEED + width), kind, 1 << 20);
+    let header = pages::header(width, (1 << 20) / width, 180);
+    assert_eq!(same(SEED, converted(compare, &elements, header)), (0, 0));
+}
+
+#[test]
+fn long_sources() {
+    let mut compare = Compare::new(&Library);
+    for (kind, width) in [(Kind::Single, 8192), (Kind::Half, 128), (Kind::Rgbe, 1024)] {
+        source(&mut compare, kind, width);
+    }
+    println!("long sources, seed {SEED}: {}", compare.counts);
+}

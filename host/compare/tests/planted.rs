@@ -1,0 +1,257 @@
+//! Each comparison can fail: differences are planted in the library's answers, and every one must be noticed.
+
+use compare::pages::Page;
+use compare::{program, Calls, Compare, Elements, Library};
+use dofnihet::raw::{Header as RawHeader, Outcome, Row, Tally};
+use dofnihet::{Header, Source};
+
+/// The library with one thing wrong.
+#[derive(Clone, Copy, Debug, PartialEq, Eq)]
+enum Planted {
+    Nothing,
+    Number,
+    Place,
+    PlaceOfAccepted,
+    ConvertFirst,
+    ConvertLast,
+    ConvertBehind,
+    ConvertRefused,
+    UnpackLast,
+    UnpackBehind,
+    UnpackRefused,
+    LevelMore,
+    LevelLess,
+    MapBehind,
+    MapRefused,
+    HeaderWidth,
+    HeaderHeight,
+    HeaderKey,
+    HeaderOfRefused,
+    RowStart,
+    RowLength,
+    RowOfRefused,
+    Lit,
+    Sum,
+    Present,
+    Average,
+    Exponent,
+    Mantissa,
+    TallyOfRefused,
+}
+
+use Planted::*;
+
+impl Planted {
+    fn on(self, planted: Planted, value: u64) -> u64 {
+        value + (self == planted) as u64
+    }
+
+    fn outcome(self, outcome: Outcome) -> Outcome {
+        let (number, place) = self.told(outcome.number, outcome.place);
+        Outcome { number, place }
+    }
+
+    fn told(self, number: u64, place: u64) -> (u64, u64) {
+        match self {
+            Number if number > 0 => (number + 1, place),
+            Place => (number, 0),
+            PlaceOfAccepted if number == 0 => (0, 1),
+            _ => (number, place),
+        }
+    }
+}
+
+impl Calls for Planted {
+    fn convert(&self, source: Source, header: Header, output: &mut [u32]) -> Outcome {
+        let outcome = Library.convert(source, header, output);
+        let (needed, last) = (3 * (header.width * header.height) as usize + 3, output.len() - 1);
+        match self {
+            ConvertFirst if outcome.number == 0 => output[0] ^= 1 << 14,
+            ConvertLast if outcome.number == 0 => output[needed - 1] ^= 1,
+            ConvertBehind if outcome.number == 0 && last >= needed => output[needed] ^= 1,
+            ConvertRefused if outcome.number > 0 => output[last] ^= 1,
+            _ => (),
+        }
+        self.outcome(outcome)
+    }
+
+    fn check(&self, strip: &[u32]) -> Outcome {
+        self.outcome(Library.check(strip))
+    }
+
+    fn unpack(&self, strip: &[u32], output: &mut [u16]) -> Outcome {
+        let outcome = Library.unpack(strip, output);
+        let needed = strip.len() - 3;
+        match self {
+            UnpackLast if outcome.number == 0 => output[needed - 1] ^= 1,
+            UnpackBehind if outcome.number == 0 && output.len() > needed => output[needed] ^= 1,
+            UnpackRefused if outcome.number == 4 && !output.is_empty() => output[0] ^= 1,
+            _ => (),
+        }
+        self.outcome(outcome)
+    }
+
+    fn map(&self, strip: &[u32], output: &mut [u8]) -> Outcome {
+        let outcome = Library.map(strip, output);
+        let needed = strip.len() - 3;
+        match self {
+            LevelMore if outcome.number == 0 => output[needed - 1] += 1,
+            LevelLess if outcome.number == 0 => output[0] -= 1,
+            MapBehind if outcome.number == 0 && output.len() > needed => output[needed] ^= 1,
+            MapRefused if outcome.number == 4 && !output.is_empty() => output[0] ^= 1,
+            _ => (),
+        }
+        self.outcome(outcome)
+    }
+
+    fn header(&self, strip: &[u32]) -> RawHeader {
+        let told = Library.header(strip);
+        RawHeader {
+            width: self.on(HeaderWidth, told.width),
+            height: self.on(HeaderHeight, told.height),
+            key: self.on(HeaderKey, told.key) + (*self == HeaderOfRefused && told.number > 0) as u64,
+            ..told
+        }
+    }
+
+    fn row(&self, strip: &[u32], y: u64) -> Row {
+        let told = Library.row(strip, y);
+        Row {
+            start: self.on(RowStart, told.start),
+            length: self.on(RowLength, told.length) + (*self == RowOfRefused && told.number > 0) as u64,
+            ..told
+        }
+    }
+
+    fn tally(&self, strip: &[u32]) -> Tally {
+        let told = Library.tally(strip);
+        Tally {
+            lit: self.on(Lit, told.lit),
+            sum: told.sum + (*self == Sum) as i64,
+            present: self.on(Present, told.present),
+            average: told.average + (*self == Average) as i64 + (*self == TallyOfRefused && told.number > 0) as i64,
+            exponent: self.on(Exponent, told.exponent),
+            mantissa: self.on(Mantissa, told.mantissa),
+            ..told
+        }
+    }
+
+    fn front(&self, width: u64, height: u64, output: &mut [u8; 50]) -> usize {
+        Library.front(width, height, output)
+    }
+}
+
+const PLANTED: [Planted; 28] = [
+    Number,
+    Place,
+    PlaceOfAccepted,
+    ConvertFirst,
+    ConvertLast,
+    ConvertBehind,
+    ConvertRefused,
+    UnpackLast,
+    UnpackBehind,
+    UnpackRefused,
+    LevelMore,
+    LevelLess,
+    MapBehind,
+    MapRefused,
+    HeaderWidth,
+    HeaderHeight,
+    HeaderKey,
+    HeaderOfRefused,
+    RowStart,
+    RowLength,
+    RowOfRefused,
+    Lit,
+    Sum,
+    Present,
+    Average,
+    Exponent,
+    Mantissa,
+    TallyOfRefused,
+];
+
+/// Two greys, 1.0 and 0.5.
+fn page() -> Page {
+    Page::row(180, &[[0x80FF; 3], [0x7FFF; 3]])
+}
+
+/// The sound page and the page with its last blue word wild, through every comparison.
+fn noticed(calls: &dyn Calls) -> bool {
+    let mut compare = Compare::new(calls);
+    let (sound, mut wild) = (page(), page());
+    wild.channels[5] = 1;
+    let converted = |compare: &mut Compare, page: &Page| {
+        let elements = Elements::Stored(page.channels.clone());
+        compare.convert_into(elements.source(), page.header(), 11).map(|_| ())
+    };
+    let seen = [
+        converted(&mut compare, &sound),
+        converted(&mut compare, &wild),
+        compare.strip(&sound.strip()).map(|_| ()),
+        compare.strip(&wild.strip()).map(|_| ()),
+    ];
+    seen.iter().any(|answer| answer.is_err())
+}
+
+#[test]
+fn planted_differences() {
+    assert!(!noticed(&Nothing));
+    for planted in PLANTED {
+        assert!(noticed(&planted), "{planted:?} was not noticed");
+    }
+    println!("planted differences: {} noticed", PLANTED.len());
+}
+
+/// An average off by two, or by more, is no mean of the page; the paper's -129 is.
+#[test]
+fn planted_means() {
+    let mut compare = Compare::new(&Library);
+    let strip = page().strip();
+    assert!(compare.mean(&strip, -129).is_ok());
+    for wrong in [-129 + 2, -129 - 2, -129 + 256, 129, 0] {
+        assert!(compare.mean(&strip, wrong).is_err(), "{wrong}");
+    }
+    println!("planted means: 5 noticed");
+}
+
+/// Levels too far from the exact value are seen at any place; the paper's 52 and 29 are near it.
+#[test]
+fn planted_levels() {
+    let mut compare = Compare::new(&Library);
+    let (strip, levels) = (page().strip(), [52, 52, 52, 29, 29, 29]);
+    let tally = Library.tally(&strip);
+    assert!(compare.distances(&strip, &tally, &levels).is_ok());
+    for (place, wrong) in (0..6).flat_map(|place| [4, 252, 128].map(|wrong| (place, wrong))) {
+        let mut planted = levels;
+        planted[place] = planted[place].wrapping_add(wrong);
+        assert!(compare.distances(&strip, &tally, &planted).is_err(), "level {place}");
+    }
+    assert!(compare.distances(&strip, &tally, &[0; 6]).is_err());
+    println!("planted levels: 19 noticed");
+}
+
+/// A picture with one byte changed, dropped or added is another.
+#[test]
+fn planted_bytes() {
+    let printed = b"P6\n2 1\n255\n444\x1D\x1D\x1D";
+    assert!(program::equal(&[], printed, printed).is_ok());
+    for place in 0..printed.len() {
+        let mut planted = *printed;
+        planted[place] ^= 1;
+        assert!(program::equal(&[], printed, &planted).is_err());
+        assert!(program::equal(&[], printed, &printed[..place]).is_err());
+    }
+    assert!(program::equal(&[], printed, &[&printed[..], &[0]].concat()).is_err());
+    println!("planted bytes: {} noticed", 2 * printed.len() + 1);
+}
+
+/// Memory to be read that was changed is seen.
+#[test]
+fn planted_writes() {
+    let what = || String::new();
+    assert!(compare::compare::unchanged(&[1, 2, 3], &[1, 2, 3], &what).is_ok());
+    assert!(compare::compare::unchanged(&[1, 2, 3], &[1, 2, 4], &what).is_err());
+    println!("planted writes: 1 noticed");
+}

@@ -1,0 +1,23 @@
+//! The soak's rounds on fixed seeds.
+
+use compare::{rounds, same, Compare, Library};
+
+const SEED: u64 = 1_000_000;
+
+fn run(first: u64, count: u64) {
+    let mut compare = Compare::new(&Library);
+    for seed in first..first + count {
+        same(seed, rounds::round(&mut compare, seed));
+    }
+    println!("rounds, seeds {first} to {}: {}", first + count - 1, compare.counts);
+}
+
+#[test]
+fn first_rounds() {
+    run(SEED, 800);
+}
+
+#[test]
+fn other_rounds() {
+    run(2 * SEED, 800);
+}

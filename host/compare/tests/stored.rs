@@ -1,0 +1,67 @@
+//! All 65,536 stored numbers, as sources and as words of a strip.
+
+use compare::pages::{self, Page};
+use compare::{same, values, Compare, Elements, Library, Random};
+
+const SEED: u64 = 401;
+
+/// Each number in a source of one to three pixels, at some place.
+#[test]
+fn sources() {
+    let (random, mut compare) = (&mut Random::new(SEED), Compare::new(&Library));
+    for value in 0..=u16::MAX {
+        let width = random.between(1, 3);
+        let place = random.below(3 * width);
+        let mut elements = values::accepted(random, compare::Kind::Stored, width);
+        elements.set(place as usize, value as u32);
+        let header = pages::header(width, 1, 180);
+        let (told, _) = same(SEED, compare.convert(elements.source(), header));
+        assert_eq!(told, if pages::is_channel(value) { (0, 0) } else { (8, place) }, "{value:04X}");
+    }
+    println!("stored in sources, seed {SEED}: 65536 numbers, {}", compare.counts);
+}
+
+/// Each number in a channel word of a strip of one or two pixels: every call.
+#[test]
+fn words() {
+    let (random, mut compare) = (&mut Random::new(SEED + 1), Compare::new(&Library));
+    for value in 0..=u16::MAX {
+        let width = random.between(1, 2);
+        let place = random.below(3 * width);
+        let mut page = Page {
+            width,
+            height: 1,
+            key: pages::key(random),
+            channels: (0..3 * width).map(|_| values::stored(random)).collect(),
+        };
+        page.channels[place as usize] = value;
+        let told = same(SEED, compare.strip(&page.strip()));
+        assert_eq!(told, if pages::is_channel(value) { (0, 0) } else { (8, place + 2) }, "{value:04X}");
+    }
+    println!("stored in words, seed {}: 65536 numbers, {}", SEED + 1, compare.counts);
+}
+
+/// Each accepted number as a grey pixel and alone in each channel, in pages of 128 pixels.
+#[test]
+fn accepted() {
+    let (random, mut compare) = (&mut Random::new(SEED + 2), Compare::new(&Library));
+    let list: Vec<u16> = (0..=u16::MAX).filter(|&value| pages::is_channel(value)).collect();
+    for part in list.chunks(128) {
+        for shape in [[1, 1, 1], [1, 0, 0], [0, 1, 0], [0, 0, 1]] {
+            let channels = part.iter().flat_map(|&value| shape.map(|on| on * value)).collect();
+            let page = Page {
+                width: part.len() as u64,
+                height: 1,
+                key: pages::key(random),
+                channels,
+            };
+            let made = same(
+                SEED,
+                compare.convert(Elements::Stored(page.channels.clone()).source(), page.header()),
+            );
+            assert_eq!(made, ((0, 0), page.strip()));
+            same(SEED, compare.strip(&page.strip()));
+        }
+    }
+    println!("stored in pages, seed {}: {} numbers, {}", SEED + 2, list.len(), compare.counts);
+}
