@@ -1,4 +1,4 @@
-.PHONY: test run staticlib bench
+.PHONY: test run staticlib bench soak
 
 # Every test and every proof, from nothing.
 test:
@@ -17,3 +17,8 @@ staticlib:
 # The library's times beside the double precision method's: docs/BENCHMARK.md.
 bench: staticlib
 	cargo run --release --manifest-path host/Cargo.toml -p bench
+
+# The comparisons with the second tone step on new seeds, for ten minutes.
+soak: staticlib
+	rt check picture
+	cargo run --release --manifest-path host/Cargo.toml -p compare --bin soak -- 10
