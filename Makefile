@@ -1,4 +1,4 @@
-.PHONY: test run staticlib bench soak
+.PHONY: test run staticlib command bench soak
 
 # Every test and every proof, from nothing.
 test:
@@ -13,6 +13,10 @@ run:
 # The library for C and Rust programs, proved and built: target/staticlib/libdofnihet.a.
 staticlib:
 	rt staticlib dofnihet
+
+# The command line: host/target/release/dofnihet.
+command: staticlib
+	cargo build --release --manifest-path host/Cargo.toml -p command
 
 # The library's times beside the double precision method's: docs/BENCHMARK.md.
 bench: staticlib
