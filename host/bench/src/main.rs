@@ -17,7 +17,7 @@ const KEY: u64 = 180;
 fn main() {
     println!("machine: {}", machine::model());
     println!("pages of halves, seed {SEED}, key {KEY}; best of the rounds, nanoseconds a pixel\n");
-    run(8192, 2048, 5);
+    run(8192, 2048, 8);
     run(100, 50, 2000);
     println!("peak memory of the run (VmHWM): {} MiB", machine::peak_memory() >> 20);
 }
