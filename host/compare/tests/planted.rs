@@ -5,38 +5,27 @@ use compare::{program, Calls, Compare, Elements, Library};
 use dofnihet::raw::{Header as RawHeader, Outcome, Row, Tally};
 use dofnihet::{Header, Source};
 
-/// The library with one thing wrong.
-#[derive(Clone, Copy, Debug, PartialEq, Eq)]
-enum Planted {
-    Nothing,
-    Number,
-    Place,
-    PlaceOfAccepted,
-    ConvertFirst,
-    ConvertLast,
-    ConvertBehind,
-    ConvertRefused,
-    UnpackLast,
-    UnpackBehind,
-    UnpackRefused,
-    LevelMore,
-    LevelLess,
-    MapBehind,
-    MapRefused,
-    HeaderWidth,
-    HeaderHeight,
-    HeaderKey,
-    HeaderOfRefused,
-    RowStart,
-    RowLength,
-    RowOfRefused,
-    Lit,
-    Sum,
-    Present,
-    Average,
-    Exponent,
-    Mantissa,
-    TallyOfRefused,
+/// The library with one thing wrong, and the list of these things.
+macro_rules! planted {
+    ($($planted:ident)*) => {
+        #[derive(Clone, Copy, Debug, PartialEq, Eq)]
+        enum Planted {
+            Nothing,
+            $($planted),*
+        }
+
+        const PLANTED: &[Planted] = &[$($planted),*];
+    };
+}
+
+planted! {
+    Number Place PlaceOfAccepted
+    ConvertFirst ConvertLast ConvertBehind ConvertRefused
+    UnpackLast UnpackBehind UnpackRefused
+    LevelMore LevelLess MapBehind MapRefused
+    HeaderWidth HeaderHeight HeaderKey HeaderOfRefused
+    RowStart RowLength RowOfRefused
+    Lit Sum Present Average Exponent Mantissa TallyOfRefused
 }
 
 use Planted::*;
@@ -141,37 +130,6 @@ impl Calls for Planted {
     }
 }
 
-const PLANTED: [Planted; 28] = [
-    Number,
-    Place,
-    PlaceOfAccepted,
-    ConvertFirst,
-    ConvertLast,
-    ConvertBehind,
-    ConvertRefused,
-    UnpackLast,
-    UnpackBehind,
-    UnpackRefused,
-    LevelMore,
-    LevelLess,
-    MapBehind,
-    MapRefused,
-    HeaderWidth,
-    HeaderHeight,
-    HeaderKey,
-    HeaderOfRefused,
-    RowStart,
-    RowLength,
-    RowOfRefused,
-    Lit,
-    Sum,
-    Present,
-    Average,
-    Exponent,
-    Mantissa,
-    TallyOfRefused,
-];
-
 /// Two greys, 1.0 and 0.5.
 fn page() -> Page {
     Page::row(180, &[[0x80FF; 3], [0x7FFF; 3]])
@@ -199,7 +157,7 @@ fn noticed(calls: &dyn Calls) -> bool {
 fn planted_differences() {
     assert!(!noticed(&Nothing));
     for planted in PLANTED {
-        assert!(noticed(&planted), "{planted:?} was not noticed");
+        assert!(noticed(planted), "{planted:?} was not noticed");
     }
     println!("planted differences: {} noticed", PLANTED.len());
 }
