@@ -20,7 +20,7 @@
  *     8  wild channel    neither (0,0) nor exponent 72..184 with mantissa 128..255
  *    20  no such row     row number not below the height
  *
- * Later versions add functions, and fields at the end of a struct.
+ * Later versions add functions, and fields at the end of a struct; callers are then compiled anew.
  */
 #ifndef DOFNIHET_H
 #define DOFNIHET_H
@@ -128,7 +128,7 @@ dofnihet_tally dofnihet_tally_of(const uint32_t *strip, size_t strip_len);
 /* Writes what stands before the levels in a Netpbm P6 picture: "P6", width, height, "255".
  * The output has 50 bytes, enough for any two numbers.
  * Answers how many bytes of its front are the text's. */
-size_t dofnihet_front_of(uint64_t width, uint64_t height, uint8_t output[50]);
+uint64_t dofnihet_front_of(uint64_t width, uint64_t height, uint8_t output[50]);
 
 #ifdef __cplusplus
 }

@@ -1,5 +1,5 @@
 /* A page of four grey pixels, given as half floats: converted into a strip, tallied, mapped, and one row of it found.
- * `tests/c_example` builds and runs it. */
+ * `tests/c_interface` builds and runs it. */
 #include "dofnihet.h"
 
 #include <inttypes.h>

@@ -6,8 +6,9 @@ ghost use Rattle.strip.specs.Checks.{checkOutput};
 ghost use Rattle.strip.specs.Output.{after};
 ghost use Rattle.page.specs.Mapping.{stripLevels};
 ghost use Rattle.page.specs.Tallying.{tallyStrip};
-ghost use Rattle.page.specs.Claims.{TallyPromise, MapPromise};
+ghost use Rattle.page.specs.Claims.{MapPromise};
 ghost use Rattle.dofnihet.specs.Answers.{tallyAnswer};
+ghost use Rattle.dofnihet.specs.Claims.{TallyBound};
 use average::average::Average;
 use page::map::map;
 use page::tally::TallyOrRefusal;
@@ -33,7 +34,7 @@ pub struct TallyAnswer {
 #[no_mangle]
 pub extern "C" fn dofnihet_tally_of(strip: &[u32]) -> TallyAnswer
     ensures answer { λ r. ⌜ r ≡ tallyAnswer (tallyStrip (now (strip .entry))) ⌝ }
-    ensures bound { λ _. ⌜ TallyPromise (now (strip .entry)) (tallyStrip (now (strip .entry))) ⌝ }
+    ensures bound { λ r. ⌜ TallyBound (now (strip .entry)) r ⌝ }
 {
     match tally(strip) {
         TallyOrRefusal::Holds(told, average) => match average {

@@ -7,9 +7,9 @@ use ppm::text::front;
 
 // The front of a P6 picture; answers how many bytes it has.
 #[no_mangle]
-pub extern "C" fn dofnihet_front_of(width: u64, height: u64, output: &mut [u8; 50]) -> usize
+pub extern "C" fn dofnihet_front_of(width: u64, height: u64, output: &mut [u8; 50]) -> u64
     ensures count { λ r. ⌜ r ≡ length (frontOf width height) ⌝ }
     ensures content { λ _. ⌜ now (output .exit) ≡ onto (frontOf width height) (now (output .entry)) ⌝ }
 {
-    front(width, height, output)
+    front(width, height, output) as u64
 }

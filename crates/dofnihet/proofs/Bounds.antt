@@ -1,0 +1,53 @@
+-- A tally's promise carries over to its answer in numbers. Assumes nothing.
+use Prim.Native.Nat.{ℕ}
+use mathlib.Core.Path.{_≡_, sym, ap, subst, _∙_}
+use mathlib.Core.List.{List}
+use native.Mathlib.Omega.{arith}
+use Rattle.refusal.specs.declared.Refusal.{Refusal}
+use Rattle.refusal.specs.declared.Refusal.the-variants.{
+  BadSize,
+  BadKey,
+  WrongLength,
+  SmallOutput,
+  NotANumber,
+  TooBright,
+  UnexpectedWord,
+  InvalidChannel,
+  NoSuchRow,
+}
+use Rattle.refusal.specs.Refusals.{outcomeOf}
+use Rattle.average.specs.declared.average.Average.the-variants.{Absent, Present}
+use Rattle.page.specs.declared.tally.TallyOrRefusal.{TallyOrRefusal}
+use Rattle.page.specs.declared.tally.TallyOrRefusal.the-variants.{Holds, Refuses}
+use Rattle.page.specs.Claims.{TallyPromise}
+use Rattle.page.specs.Tallying.{tallyStrip}
+use Rattle.dofnihet.specs.declared.pages.TallyAnswer.{TallyAnswer}
+use Rattle.dofnihet.specs.Answers.{tallyAnswer}
+use Rattle.dofnihet.specs.Claims.{TallyBound}
+
+-- no refusal has number 0
+numbered : (r : Refusal) (i : ℕ) → outcomeOf r i .number ≡ 0 → ⊥
+numbered BadSize i e = omega (arith, e)
+numbered BadKey i e = omega (arith, e)
+numbered WrongLength i e = omega (arith, e)
+numbered SmallOutput i e = omega (arith, e)
+numbered NotANumber i e = omega (arith, e)
+numbered TooBright i e = omega (arith, e)
+numbered UnexpectedWord i e = omega (arith, e)
+numbered InvalidChannel i e = omega (arith, e)
+numbered NoSuchRow i e = omega (arith, e)
+
+bounded : (s : List ℕ) (a : TallyOrRefusal) → TallyPromise s a → TallyBound s (tallyAnswer a)
+bounded s (Holds t Absent) p = record { count = λ _. p .0; absent = λ _ _. p .1; mean = λ e. absurd (omega (arith, e)) }
+bounded s (Holds t (Present A stored)) p =
+    record { count = λ _. p .0; absent = λ _ e. absurd (omega (arith, e)); mean = λ _. p .1 }
+bounded s (Refuses r i) p =
+    record {
+      count = λ e. absurd (numbered r i e);
+      absent = λ e _. absurd (numbered r i e);
+      mean = λ e. absurd (omega (arith, e));
+    }
+
+pub answered : (s : List ℕ) (a : TallyOrRefusal) (r : TallyAnswer) → r ≡ tallyAnswer a
+    → (a ≡ tallyStrip s) × TallyPromise s a → (r ≡ tallyAnswer (tallyStrip s)) × TallyBound s r
+answered s a r q p = (q ∙ ap tallyAnswer (p .0), subst (TallyBound s) (sym q) (bounded s a (p .1)))

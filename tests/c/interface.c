@@ -1,0 +1,134 @@
+/* Every function of include/dofnihet.h called once accepted and, where it can refuse, once refused, with every field and element printed.
+ * `tests/c_interface` compares the output with interface.stdout. */
+#include "dofnihet.h"
+
+#include <inttypes.h>
+#include <stdio.h>
+#include <string.h>
+
+#define COUNT(array) (sizeof(array) / sizeof *(array))
+
+/* What an output holds before a call; elements that a call leaves alone still hold it. */
+enum { OLD = 0xEE };
+
+static void print_outcome(const char *call, dofnihet_outcome told)
+{
+    printf("%s: %" PRIu64 " %" PRIu64, call, told.number, told.place);
+}
+
+static void print_words(const uint32_t *words, size_t count)
+{
+    for (size_t i = 0; i < count; i++)
+        printf(" %08" PRIX32, words[i]);
+    printf("\n");
+}
+
+static void converted(const char *call, dofnihet_outcome told, const uint32_t *output, size_t count)
+{
+    print_outcome(call, told);
+    print_words(output, count);
+}
+
+static void conversions(void)
+{
+    const uint8_t rgbe[] = {1, 1, 1, 136};
+    const uint16_t half[] = {0x3C00, 0x3C01, 0x8000};
+    const uint32_t single[] = {0x23000000, 0x23000001, 0x5B800000};
+    const uint16_t stored[] = {0x80FF, 0x7FFF, 0};
+    const uint16_t infinite[] = {0x3C00, 0xFC00, 0};
+    uint32_t output[7];
+    memset(output, OLD, sizeof output);
+    converted("rgbe", dofnihet_convert_rgbe(rgbe, 4, 1, 1, 180, output, COUNT(output)), output, COUNT(output));
+    memset(output, OLD, sizeof output);
+    converted("half", dofnihet_convert_half(half, 3, 1, 1, 180, output, COUNT(output)), output, COUNT(output));
+    memset(output, OLD, sizeof output);
+    converted("single", dofnihet_convert_single(single, 3, 1, 1, 180, output, COUNT(output)), output, COUNT(output));
+    memset(output, OLD, sizeof output);
+    converted("stored", dofnihet_convert_stored(stored, 3, 1, 1, 180, output, COUNT(output)), output, COUNT(output));
+    memset(output, OLD, sizeof output);
+    converted("rgbe of width 0", dofnihet_convert_rgbe(rgbe, 4, 0, 1, 180, output, 7), output, 2);
+    converted("half infinite", dofnihet_convert_half(infinite, 3, 1, 1, 180, output, 7), output, 2);
+    converted("single of key 0", dofnihet_convert_single(single, 3, 1, 1, 0, output, 7), output, 2);
+    converted("stored into 5 words", dofnihet_convert_stored(stored, 3, 1, 1, 180, output, 5), output, 2);
+}
+
+static void print_header(const char *call, dofnihet_header told)
+{
+    printf("%s: %" PRIu64 " %" PRIu64 " %" PRIu64 " %" PRIu64 " %" PRIu64 "\n", call, told.number, told.place, told.width, told.height,
+           told.key);
+}
+
+static void print_row(const char *call, dofnihet_row told)
+{
+    printf("%s: %" PRIu64 " %" PRIu64 " %" PRIu64 " %" PRIu64 "\n", call, told.number, told.place, told.start, told.length);
+}
+
+static void print_tally(const char *call, dofnihet_tally told)
+{
+    printf("%s: %" PRIu64 " %" PRIu64 " %" PRIu64 " %" PRId64 " %" PRIu64 " %" PRId64 " %" PRIu64 " %" PRIu64 "\n", call, told.number,
+           told.place, told.lit, told.sum, told.present, told.average, told.exponent, told.mantissa);
+}
+
+/* Greys 1.0 and 0.5, 2 x 1. */
+static const uint32_t greys[] = {0x10008001, 0x200000B4, 0x400080FF, 0x500080FF, 0x600080FF,
+                                 0x40007FFF, 0x50007FFF, 0x60007FFF, 0x70000002};
+/* The same with a mantissa of 127 in its last channel. */
+static const uint32_t wild[] = {0x10008001, 0x200000B4, 0x400080FF, 0x500080FF, 0x600080FF,
+                                0x40007FFF, 0x50007FFF, 0x60007F7F, 0x70000002};
+static const uint32_t black[] = {0x10004001, 0x200000B4, 0x40000000, 0x50000000, 0x60000000, 0x70000001};
+
+static void readings(void)
+{
+    print_outcome("check", dofnihet_check(greys, COUNT(greys)));
+    print_outcome("\ncheck wild", dofnihet_check(wild, COUNT(wild)));
+    print_header("\nheader", dofnihet_header_of(greys, COUNT(greys)));
+    print_header("header wild", dofnihet_header_of(wild, COUNT(wild)));
+    print_row("row 0", dofnihet_row_of(greys, COUNT(greys), 0));
+    print_row("row 1", dofnihet_row_of(greys, COUNT(greys), 1));
+    print_row("row 0 wild", dofnihet_row_of(wild, COUNT(wild), 0));
+    print_tally("tally", dofnihet_tally_of(greys, COUNT(greys)));
+    print_tally("tally black", dofnihet_tally_of(black, COUNT(black)));
+    print_tally("tally wild", dofnihet_tally_of(wild, COUNT(wild)));
+}
+
+static void print_codes(const char *call, dofnihet_outcome told, const uint16_t *codes, size_t count)
+{
+    print_outcome(call, told);
+    for (size_t i = 0; i < count; i++)
+        printf(" %04X", (unsigned)codes[i]);
+    printf("\n");
+}
+
+static void print_levels(const char *call, dofnihet_outcome told, const uint8_t *levels, size_t count)
+{
+    print_outcome(call, told);
+    for (size_t i = 0; i < count; i++)
+        printf(" %u", (unsigned)levels[i]);
+    printf("\n");
+}
+
+static void outputs(void)
+{
+    uint16_t codes[7];
+    memset(codes, OLD, sizeof codes);
+    print_codes("unpack", dofnihet_unpack(greys, COUNT(greys), codes, COUNT(codes)), codes, COUNT(codes));
+    memset(codes, OLD, sizeof codes);
+    print_codes("unpack into 5", dofnihet_unpack(greys, COUNT(greys), codes, 5), codes, COUNT(codes));
+    uint8_t levels[7];
+    memset(levels, OLD, sizeof levels);
+    print_levels("map", dofnihet_map(greys, COUNT(greys), levels, COUNT(levels)), levels, COUNT(levels));
+    memset(levels, OLD, sizeof levels);
+    print_levels("map wild", dofnihet_map(wild, COUNT(wild), levels, COUNT(levels)), levels, COUNT(levels));
+    uint8_t front[50];
+    memset(front, OLD, sizeof front);
+    uint64_t count = dofnihet_front_of(18446744073709551615u, 10, front);
+    printf("front: %" PRIu64 " bytes, then %02X\n%.*s", count, (unsigned)front[count], (int)count, (const char *)front);
+}
+
+int main(void)
+{
+    conversions();
+    readings();
+    outputs();
+    return 0;
+}
