@@ -1,7 +1,7 @@
 //! Every command, with files and with standard input and output.
 
 use crate::common::{accepted, bytes16, bytes32, greys, refused, run, strip, text, words, wrong, Folder, PROGRAM, STRIP};
-use std::fs::{self, OpenOptions};
+use std::fs::{self, File, OpenOptions};
 use std::os::unix::fs::{symlink, FileTypeExt, PermissionsExt};
 use std::path::Path;
 use std::process::Command;
@@ -116,6 +116,58 @@ fn a_link_stays_a_link() {
     accepted(&["map", &strip, &link], &[]);
     assert!(fs::symlink_metadata(&link).unwrap().is_symlink());
     assert!(fs::read(&target).unwrap().starts_with(b"P6"));
+}
+
+#[test]
+fn a_link_to_nothing_is_left() {
+    let folder = Folder::new("dangling");
+    let strip = folder.file("page.strip", &bytes32(&STRIP));
+    let link = folder.path("link.ppm");
+    symlink("missing.ppm", &link).unwrap();
+    wrong(&["map", &strip, &link], &[], &format!("cannot write {link}: "));
+    assert!(fs::symlink_metadata(&link).unwrap().is_symlink());
+    assert_eq!(folder.names(), ["link.ppm", "page.strip"]);
+}
+
+/// Runs a script with the program as $0, a strip as $1 and a file as $2; answers what the file holds then, `head` being there before.
+fn after(script: &str) -> Vec<u8> {
+    let folder = Folder::new("standard_output");
+    let strip = folder.file("page.strip", &bytes32(&STRIP));
+    let file = folder.file("file", b"head\n");
+    let done = Command::new("sh").args(["-c", script, PROGRAM, &strip, &file]).output().unwrap();
+    assert!(done.status.success() && done.stderr.is_empty(), "{script}: {done:?}");
+    assert_eq!(folder.names(), ["file", "page.strip"], "{script}");
+    fs::read(file).unwrap()
+}
+
+/// A path that leads to standard output is written there, so that what stands before and behind is kept.
+#[test]
+fn standard_output_by_another_name() {
+    let row = bytes32(&STRIP[2..8]);
+    for path in ["/dev/stdout", "/proc/self/fd/1", "\"$2\"", "-"] {
+        let appended = after(&format!("\"$0\" row \"$1\" 0 {path} >> \"$2\""));
+        assert_eq!(appended, [b"head\n", &row[..]].concat(), "{path}");
+        let grouped = after(&format!("{{ echo one; \"$0\" row \"$1\" 0 {path}; echo two; }} > \"$2\""));
+        assert_eq!(grouped, [b"one\n", &row[..], b"two\n"].concat(), "{path}");
+    }
+    assert_eq!(accepted(&["row", "-", "0", "/dev/stdout"], &bytes32(&STRIP)), row);
+}
+
+/// Standard output that is open for reading only.
+#[test]
+fn standard_output_that_cannot_be_written_is_told() {
+    let folder = Folder::new("read_only");
+    let strip = folder.file("page.strip", &bytes32(&STRIP));
+    for path in ["-", &strip] {
+        let output = File::open(&strip).unwrap();
+        let done = Command::new(PROGRAM).args(["map", &strip, path]).stdout(output).output().unwrap();
+        assert_eq!(done.status.code(), Some(2), "{path}");
+        assert!(
+            done.stderr.starts_with(format!("dofnihet: cannot write {path}: ").as_bytes()),
+            "{path}"
+        );
+    }
+    assert_eq!(fs::read(&strip).unwrap(), bytes32(&STRIP));
 }
 
 #[test]
