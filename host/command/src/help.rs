@@ -12,7 +12,10 @@ Dofnihet stores a high-dynamic-range page as a strip of 32-bit words, tallies it
     dofnihet COMMAND --help
 
 - stands for standard input or output; a file whose name begins with - is written ./-name. An output file appears whole or not
-at all, and only where everything is accepted.
+at all, and only where everything is accepted. An output that is standard output itself, such as /dev/stdout, is written as - is.
+
+A strip is read to its end, since its byte count decides first: one whose byte count is no multiple of four is refused with 3,
+place 0, before any word is looked at.
 
 Exit status: 0 accepted; 1 refused, with a line such as 'refused 3 0 wrong length' (number, place, word) on standard error;
 2 wrong usage, a file that cannot be read or written, or no PFM file.

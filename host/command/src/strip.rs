@@ -6,8 +6,9 @@ use crate::files;
 use std::ffi::OsStr;
 use std::io::{self, Read};
 
-/// The words of a strip file. Of one that is longer than its size word says, one word more is kept, so that its length is still wrong. Of
-/// one whose byte count is no multiple of four none is kept: every call refuses that with 3, place 0.
+/// The words of a strip file. It is read to its end, since its byte count decides first: of one that is no multiple of four no word is
+/// kept, and every call refuses that with 3, place 0. Of a strip that is longer than its size word says, one word more is kept, so that
+/// its length is still wrong.
 pub fn read(path: &OsStr) -> Result<Vec<u32>, Failure> {
     let mut input = files::open(path)?;
     words(&mut input).map_err(|error| Failure::file("read", path, error))
