@@ -6,8 +6,8 @@ use crate::files;
 use std::ffi::OsStr;
 use std::io::{self, Read};
 
-/// The words of a strip file. It is read to its end, since its byte count decides first: of one that is no multiple of four no word is
-/// kept, and every call refuses that with 3, place 0. Of a strip that is longer than its size word says, one word more is kept, so that
+/// The words of a strip file. It is read to its end, since its byte count decides first: where that is no multiple of four, no word is
+/// kept, and every call refuses with 3, place 0. Of a strip that is longer than its size word says, one word more is kept, so that
 /// its length is still wrong.
 pub fn read(path: &OsStr) -> Result<Vec<u32>, Failure> {
     let mut input = files::open(path)?;

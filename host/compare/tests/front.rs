@@ -1,6 +1,7 @@
 //! What stands before the levels of a picture, against Rust's own formatting.
 
-use compare::{Calls, Library, Random};
+use compare::Random;
+use dofnihet::raw;
 
 const SEED: u64 = 901;
 
@@ -10,7 +11,7 @@ fn same(width: u64, height: u64) {
     let mut output = [0; 50];
     output.iter_mut().enumerate().for_each(|(i, byte)| *byte = 0x80 | i as u8);
     let old = output;
-    let count = Library.front(width, height, &mut output);
+    let count = raw::front(width, height, &mut output) as usize;
     assert_eq!(output[..count], text);
     assert_eq!(
         output[count..],

@@ -124,10 +124,6 @@ impl Calls for Planted {
             ..told
         }
     }
-
-    fn front(&self, width: u64, height: u64, output: &mut [u8; 50]) -> usize {
-        Library.front(width, height, output)
-    }
 }
 
 /// Two greys, 1.0 and 0.5.

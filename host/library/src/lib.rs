@@ -82,44 +82,33 @@ fn accepted<T>(number: u64, place: u64, answer: T) -> Result<T, Refusal> {
     }
 }
 
+fn done(outcome: raw::Outcome) -> Result<(), Refusal> {
+    accepted(outcome.number, outcome.place, ())
+}
+
 /// Leaves the strip of a source picture in the output's front.
 pub fn convert(source: Source, header: Header, output: &mut [u32]) -> Result<(), Refusal> {
-    let Header { width, height, key } = header;
-    let (to, room) = (output.as_mut_ptr(), output.len());
-    // SAFETY: every slice is live for the call, and `output` is borrowed alone.
-    let outcome = unsafe {
-        match source {
-            Source::Rgbe(s) => raw::dofnihet_convert_rgbe(s.as_ptr(), s.len(), width, height, key, to, room),
-            Source::Half(s) => raw::dofnihet_convert_half(s.as_ptr(), s.len(), width, height, key, to, room),
-            Source::Single(s) => raw::dofnihet_convert_single(s.as_ptr(), s.len(), width, height, key, to, room),
-            Source::Stored(s) => raw::dofnihet_convert_stored(s.as_ptr(), s.len(), width, height, key, to, room),
-        }
-    };
-    accepted(outcome.number, outcome.place, ())
+    done(raw::convert(source, header, output))
 }
 
 /// Checks a strip.
 pub fn check(strip: &[u32]) -> Result<(), Refusal> {
-    // SAFETY: the slice is live for the call; so in the calls below.
-    let outcome = unsafe { raw::dofnihet_check(strip.as_ptr(), strip.len()) };
-    accepted(outcome.number, outcome.place, ())
+    done(raw::check(strip))
 }
 
 /// Leaves the channels of a strip, 16-bit numbers, in the output's front.
 pub fn unpack(strip: &[u32], output: &mut [u16]) -> Result<(), Refusal> {
-    let outcome = unsafe { raw::dofnihet_unpack(strip.as_ptr(), strip.len(), output.as_mut_ptr(), output.len()) };
-    accepted(outcome.number, outcome.place, ())
+    done(raw::unpack(strip, output))
 }
 
 /// Leaves the levels of a strip, three bytes a pixel, in the output's front.
 pub fn map(strip: &[u32], output: &mut [u8]) -> Result<(), Refusal> {
-    let outcome = unsafe { raw::dofnihet_map(strip.as_ptr(), strip.len(), output.as_mut_ptr(), output.len()) };
-    accepted(outcome.number, outcome.place, ())
+    done(raw::map(strip, output))
 }
 
 /// The header of a strip.
 pub fn header(strip: &[u32]) -> Result<Header, Refusal> {
-    let told = unsafe { raw::dofnihet_header_of(strip.as_ptr(), strip.len()) };
+    let told = raw::header(strip);
     let header = Header {
         width: told.width,
         height: told.height,
@@ -130,14 +119,14 @@ pub fn header(strip: &[u32]) -> Result<Header, Refusal> {
 
 /// The words of row y of a strip.
 pub fn row(strip: &[u32], y: u64) -> Result<&[u32], Refusal> {
-    let told = unsafe { raw::dofnihet_row_of(strip.as_ptr(), strip.len(), y) };
+    let told = raw::row(strip, y);
     let start = told.start as usize;
     accepted(told.number, told.place, &strip[start..start + told.length as usize])
 }
 
 /// The tally of a strip.
 pub fn tally(strip: &[u32]) -> Result<Tally, Refusal> {
-    let told = unsafe { raw::dofnihet_tally_of(strip.as_ptr(), strip.len()) };
+    let told = raw::tally(strip);
     let average = Average {
         steps: told.average,
         exponent: told.exponent as u8,
@@ -154,7 +143,6 @@ pub fn tally(strip: &[u32]) -> Result<Tally, Refusal> {
 /// What stands before the levels in a P6 picture.
 pub fn front(width: u64, height: u64) -> Vec<u8> {
     let mut text = [0; 50];
-    // SAFETY: the output has the 50 bytes that the call asks for.
-    let count = unsafe { raw::dofnihet_front_of(width, height, text.as_mut_ptr()) };
-    text[..count].to_vec()
+    let count = raw::front(width, height, &mut text);
+    text[..count as usize].to_vec()
 }

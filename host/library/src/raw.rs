@@ -1,4 +1,6 @@
-//! The C interface as include/dofnihet.h declares it.
+//! The C interface as include/dofnihet.h declares it, and its calls with slices in place of pointers.
+
+use crate::Source;
 
 #[repr(C)]
 #[derive(Clone, Copy, Debug, PartialEq, Eq)]
@@ -40,7 +42,7 @@ pub struct Tally {
 }
 
 extern "C" {
-    pub fn dofnihet_convert_rgbe(
+    fn dofnihet_convert_rgbe(
         source: *const u8,
         source_len: usize,
         width: u64,
@@ -49,7 +51,7 @@ extern "C" {
         output: *mut u32,
         output_len: usize,
     ) -> Outcome;
-    pub fn dofnihet_convert_half(
+    fn dofnihet_convert_half(
         source: *const u16,
         source_len: usize,
         width: u64,
@@ -58,7 +60,7 @@ extern "C" {
         output: *mut u32,
         output_len: usize,
     ) -> Outcome;
-    pub fn dofnihet_convert_single(
+    fn dofnihet_convert_single(
         source: *const u32,
         source_len: usize,
         width: u64,
@@ -67,7 +69,7 @@ extern "C" {
         output: *mut u32,
         output_len: usize,
     ) -> Outcome;
-    pub fn dofnihet_convert_stored(
+    fn dofnihet_convert_stored(
         source: *const u16,
         source_len: usize,
         width: u64,
@@ -76,11 +78,56 @@ extern "C" {
         output: *mut u32,
         output_len: usize,
     ) -> Outcome;
-    pub fn dofnihet_check(strip: *const u32, strip_len: usize) -> Outcome;
-    pub fn dofnihet_unpack(strip: *const u32, strip_len: usize, output: *mut u16, output_len: usize) -> Outcome;
-    pub fn dofnihet_map(strip: *const u32, strip_len: usize, output: *mut u8, output_len: usize) -> Outcome;
-    pub fn dofnihet_header_of(strip: *const u32, strip_len: usize) -> Header;
-    pub fn dofnihet_row_of(strip: *const u32, strip_len: usize, y: u64) -> Row;
-    pub fn dofnihet_tally_of(strip: *const u32, strip_len: usize) -> Tally;
-    pub fn dofnihet_front_of(width: u64, height: u64, output: *mut u8) -> usize;
+    fn dofnihet_check(strip: *const u32, strip_len: usize) -> Outcome;
+    fn dofnihet_unpack(strip: *const u32, strip_len: usize, output: *mut u16, output_len: usize) -> Outcome;
+    fn dofnihet_map(strip: *const u32, strip_len: usize, output: *mut u8, output_len: usize) -> Outcome;
+    fn dofnihet_header_of(strip: *const u32, strip_len: usize) -> Header;
+    fn dofnihet_row_of(strip: *const u32, strip_len: usize, y: u64) -> Row;
+    fn dofnihet_tally_of(strip: *const u32, strip_len: usize) -> Tally;
+    fn dofnihet_front_of(width: u64, height: u64, output: *mut u8) -> u64;
+}
+
+// SAFETY, for each call below: every slice is live for the call, the output is borrowed alone, and that of `front` has the 50 bytes that
+// the call asks for.
+
+pub fn convert(source: Source, header: crate::Header, output: &mut [u32]) -> Outcome {
+    let crate::Header { width, height, key } = header;
+    let (to, room) = (output.as_mut_ptr(), output.len());
+    unsafe {
+        match source {
+            Source::Rgbe(s) => dofnihet_convert_rgbe(s.as_ptr(), s.len(), width, height, key, to, room),
+            Source::Half(s) => dofnihet_convert_half(s.as_ptr(), s.len(), width, height, key, to, room),
+            Source::Single(s) => dofnihet_convert_single(s.as_ptr(), s.len(), width, height, key, to, room),
+            Source::Stored(s) => dofnihet_convert_stored(s.as_ptr(), s.len(), width, height, key, to, room),
+        }
+    }
+}
+
+pub fn check(strip: &[u32]) -> Outcome {
+    unsafe { dofnihet_check(strip.as_ptr(), strip.len()) }
+}
+
+pub fn unpack(strip: &[u32], output: &mut [u16]) -> Outcome {
+    unsafe { dofnihet_unpack(strip.as_ptr(), strip.len(), output.as_mut_ptr(), output.len()) }
+}
+
+pub fn map(strip: &[u32], output: &mut [u8]) -> Outcome {
+    unsafe { dofnihet_map(strip.as_ptr(), strip.len(), output.as_mut_ptr(), output.len()) }
+}
+
+pub fn header(strip: &[u32]) -> Header {
+    unsafe { dofnihet_header_of(strip.as_ptr(), strip.len()) }
+}
+
+pub fn row(strip: &[u32], y: u64) -> Row {
+    unsafe { dofnihet_row_of(strip.as_ptr(), strip.len(), y) }
+}
+
+pub fn tally(strip: &[u32]) -> Tally {
+    unsafe { dofnihet_tally_of(strip.as_ptr(), strip.len()) }
+}
+
+/// Answers how many bytes were written.
+pub fn front(width: u64, height: u64, output: &mut [u8; 50]) -> u64 {
+    unsafe { dofnihet_front_of(width, height, output.as_mut_ptr()) }
 }
