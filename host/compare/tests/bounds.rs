@@ -8,20 +8,22 @@ const SEED: u64 = 701;
 /// Pages of up to 120 pixels of each look.
 #[test]
 fn means_of_small_pages() {
-    let (random, mut compare) = (&mut Random::new(SEED), Compare::new(&Library));
+    let seed = SEED;
+    let (random, mut compare) = (&mut Random::new(seed), Compare::new(&Library));
     compare.mean_limit = 2_000;
     for (look, _) in LOOKS.iter().flat_map(|look| (0..12).map(move |i| (*look, i))) {
         let (width, height) = (random.between(1, 12), random.between(1, 10));
         let page = pages::page(random, look, width, height);
-        same(SEED, compare.strip(&page.strip()));
+        same(seed, compare.strip(&page.strip()));
     }
-    println!("means of small pages, seed {SEED}: {}", compare.counts);
+    println!("means of small pages, seed {seed}: {}", compare.counts);
 }
 
 /// A few of 500 to 2,000.
 #[test]
 fn means_of_long_pages() {
-    let (random, mut compare) = (&mut Random::new(SEED + 1), Compare::new(&Library));
+    let seed = SEED + 1;
+    let (random, mut compare) = (&mut Random::new(seed), Compare::new(&Library));
     compare.mean_limit = 2_000;
     for (look, width, height) in [
         (Look::Wide, 40, 50),
@@ -30,9 +32,9 @@ fn means_of_long_pages() {
         (Look::Single, 500, 1),
     ] {
         let page = pages::page(random, look, width, height);
-        same(SEED, compare.strip(&page.strip()));
+        same(seed, compare.strip(&page.strip()));
     }
-    println!("means of long pages, seed {}: {}", SEED + 1, compare.counts);
+    println!("means of long pages, seed {seed}: {}", compare.counts);
 }
 
 /// Pages of one mantissa throughout: the mean lies as far above the average as that entry of T lets it.
@@ -43,7 +45,7 @@ fn means_of_flat_pages() {
     for mantissa in 128..=255 {
         for count in [1, 2, 7] {
             let grey = [pages::stored(120, mantissa); 3];
-            same(0, compare.strip(&Page::row(180, &vec![grey; count]).strip()));
+            compare.strip(&Page::row(180, &vec![grey; count]).strip()).unwrap();
         }
     }
     println!("means of flat pages: {}", compare.counts);
@@ -52,21 +54,23 @@ fn means_of_flat_pages() {
 /// Greys that push the mean to a limit: their steps are cut by nearly a whole step each, or by hardly any, and so is the division.
 #[test]
 fn means_at_limits() {
-    let (random, mut compare) = (&mut Random::new(SEED + 3), Compare::new(&Library));
+    let seed = SEED + 3;
+    let (random, mut compare) = (&mut Random::new(seed), Compare::new(&Library));
     compare.mean_limit = 2_000;
     for count in (2..60).chain([100, 200, 300]) {
         for far in [false, true] {
-            same(SEED, compare.strip(&limits::page(random, count, far).strip()));
+            same(seed, compare.strip(&limits::page(random, count, far).strip()));
         }
     }
     assert!(compare.counts.mean_low < 0.03 && compare.counts.mean_high > 1.95);
-    println!("means at limits, seed {}: {}", SEED + 3, compare.counts);
+    println!("means at limits, seed {seed}: {}", compare.counts);
 }
 
 /// Levels of one bright or dim pixel among others, with each key at the limits, and saturated channels.
 #[test]
 fn levels_at_limits() {
-    let (random, mut compare) = (&mut Random::new(SEED + 2), Compare::new(&Library));
+    let seed = SEED + 2;
+    let (random, mut compare) = (&mut Random::new(seed), Compare::new(&Library));
     for key in [1, 2, 180, 999, 1000] {
         for look in [
             Look::Spark,
@@ -80,11 +84,11 @@ fn levels_at_limits() {
             for _ in 0..8 {
                 let mut page = pages::page(random, look, 60, 10);
                 page.key = key;
-                same(SEED, compare.strip(&page.strip()));
+                same(seed, compare.strip(&page.strip()));
             }
         }
     }
-    println!("levels at limits, seed {}: {}", SEED + 2, compare.counts);
+    println!("levels at limits, seed {seed}: {}", compare.counts);
 }
 
 /// The least luminance among the greatest and the other way round, with the keys that drive the scaled luminance to its limits.
@@ -101,7 +105,7 @@ fn scaled_luminances_at_limits() {
         for count in [2, 8, 100, 8192] {
             let mut pixels = vec![common; count];
             pixels[count / 2] = odd;
-            same(0, compare.strip(&Page::row(key, &pixels).strip()));
+            compare.strip(&Page::row(key, &pixels).strip()).unwrap();
         }
     }
     println!("scaled luminances at limits: {}", compare.counts);

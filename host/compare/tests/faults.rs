@@ -15,12 +15,12 @@ fn sources() {
         for (i, j) in pairs.filter(|&(i, j)| i == j || source_faults::together(list[i], list[j])) {
             let faults = if i == j { vec![list[i]] } else { vec![list[i], list[j]] };
             let case = source_faults::Case::sound(kind).with(&faults);
-            let (told, _) = same(0, compare.convert_into(case.elements.source(), case.header, case.room));
+            let (told, _) = compare.convert_into(case.elements.source(), case.header, case.room).unwrap();
             assert_eq!(told, source_faults::first(&faults), "{kind:?} {faults:?}");
             cases += 1;
         }
         let sound = source_faults::Case::sound(kind);
-        let (told, _) = same(0, compare.convert(sound.elements.source(), sound.header));
+        let (told, _) = compare.convert(sound.elements.source(), sound.header).unwrap();
         assert_eq!(told, (0, 0));
     }
     println!("faults of sources: {cases} cases, {}", compare.counts);
@@ -35,10 +35,10 @@ fn strips() {
     let mut cases = 0;
     for (i, j) in pairs.filter(|&(i, j)| i == j || strip_faults::together(list[i], list[j])) {
         let faults = if i == j { vec![list[i]] } else { vec![list[i], list[j]] };
-        same(0, strip_fault_case(&mut compare, &faults));
+        strip_fault_case(&mut compare, &faults).unwrap();
         cases += 1;
     }
-    same(0, strip_fault_case(&mut compare, &[]));
+    strip_fault_case(&mut compare, &[]).unwrap();
     println!("faults of strips: {cases} cases, {}", compare.counts);
 }
 

@@ -11,30 +11,32 @@ const SEED: u64 = 801;
 /// Accepted pages of each look, small ones and the greatest that fit.
 #[test]
 fn accepted() {
-    let (random, mut printed) = (&mut Random::new(SEED), Printed::default());
+    let seed = SEED;
+    let (random, mut printed) = (&mut Random::new(seed), Printed::default());
     for (look, _) in LOOKS.iter().flat_map(|look| (0..8).map(move |i| (*look, i))) {
         let (width, height) = pages::small_size(random);
         let picture = same(
-            SEED,
+            seed,
             printed.same(&program::bytes(&pages::page(random, look, width, height).strip())),
         );
         assert!(picture.starts_with(format!("P6\n{width} {height}\n255\n").as_bytes()));
     }
     for (width, height) in [(5460, 1), (1, 5460), (84, 65), (70, 78), (2730, 2)] {
         let strip = pages::page(random, Look::Wide, width, height).strip();
-        assert!(same(SEED, printed.same(&program::bytes(&strip))).starts_with(b"P6\n"));
+        assert!(same(seed, printed.same(&program::bytes(&strip))).starts_with(b"P6\n"));
     }
-    println!("pictures accepted, seed {SEED}: {} inputs", printed.inputs);
+    println!("pictures accepted, seed {seed}: {} inputs", printed.inputs);
 }
 
 /// Damaged strips, and each fault of a strip.
 #[test]
 fn refused() {
-    let (random, mut printed) = (&mut Random::new(SEED + 1), Printed::default());
+    let seed = SEED + 1;
+    let (random, mut printed) = (&mut Random::new(seed), Printed::default());
     for fault in strip_faults::faults() {
         let case = strip_faults::Case::sound().with(&[fault]);
         let (number, place) = strip_faults::first(&[fault], strip_faults::Asked::Strip);
-        let answer = same(SEED, printed.same(&program::bytes(&case.strip)));
+        let answer = same(seed, printed.same(&program::bytes(&case.strip)));
         if number > 0 {
             assert_eq!(answer, format!("refused {number} {place}\n").as_bytes());
         }
@@ -42,48 +44,46 @@ fn refused() {
     for _ in 0..120 {
         let (width, height) = pages::small_size(random);
         let strip = pages::page(random, Look::Mixed, width, height).strip();
-        same(SEED, printed.same(&program::bytes(&damage::random(random, &strip))));
+        same(seed, printed.same(&program::bytes(&damage::random(random, &strip))));
     }
     println!(
-        "pictures refused, seed {}: {} inputs, {} refused",
-        SEED + 1,
-        printed.inputs,
-        printed.refused
+        "pictures refused, seed {seed}: {} inputs, {} refused",
+        printed.inputs, printed.refused
     );
 }
 
 /// Byte counts: none, no multiple of four, at the limit and above it.
 #[test]
 fn byte_counts() {
-    let (random, mut printed) = (&mut Random::new(SEED + 2), Printed::default());
+    let seed = SEED + 2;
+    let (random, mut printed) = (&mut Random::new(seed), Printed::default());
     let bytes = program::bytes(&pages::page(random, Look::Wide, 5460, 1).strip());
     assert_eq!(bytes.len(), 65_532);
     for count in (0..40).chain(65_500..65_532) {
-        let answer = same(SEED, printed.same(&bytes[..count]));
+        let answer = same(seed, printed.same(&bytes[..count]));
         assert_eq!(answer, b"refused 3 0\n");
     }
     for more in 1..=4 {
-        assert_eq!(same(SEED, printed.same(&[&bytes[..], &[0; 4][..more]].concat())), b"refused 3 0\n");
+        assert_eq!(same(seed, printed.same(&[&bytes[..], &[0; 4][..more]].concat())), b"refused 3 0\n");
     }
     for more in [5, 6, 7, 8, 9, 12, 4096, 70_000, 1_000_000] {
-        assert_eq!(same(SEED, printed.same(&[&bytes[..], &vec![0; more]].concat())), b"long\n");
+        assert_eq!(same(seed, printed.same(&[&bytes[..], &vec![0; more]].concat())), b"long\n");
     }
     for count in [65_533, 65_535, 65_536, 65_537, 65_540, 131_072] {
         let noise: Vec<u8> = (0..count).map(|_| random.bits() as u8).collect();
-        same(SEED, printed.same(&noise));
+        same(seed, printed.same(&noise));
     }
     println!(
-        "pictures by byte count, seed {}: {} inputs, {} refused",
-        SEED + 2,
-        printed.inputs,
-        printed.refused
+        "pictures by byte count, seed {seed}: {} inputs, {} refused",
+        printed.inputs, printed.refused
     );
 }
 
 /// Inputs in pieces whose lengths are no multiples of four, with pauses between them, and from a file.
 #[test]
 fn pieces_and_files() {
-    let (random, mut printed) = (&mut Random::new(SEED + 3), Printed::default());
+    let seed = SEED + 3;
+    let (random, mut printed) = (&mut Random::new(seed), Printed::default());
     let bytes = program::bytes(&pages::page(random, Look::Wide, 5460, 1).strip());
     let longest = [&bytes[..], &[0; 4]].concat();
     let longer = [&bytes[..], &[0; 5]].concat();
@@ -98,18 +98,18 @@ fn pieces_and_files() {
     ] {
         let pieces: Vec<&[u8]> = input.chunks(size).collect();
         same(
-            SEED,
+            seed,
             printed.same_as(input, program::run_in_pieces(&pieces, Duration::from_millis(2))),
         );
         let path = concat!(env!("CARGO_TARGET_TMPDIR"), "/page.strip");
         std::fs::write(path, input).unwrap();
-        same(SEED, printed.same_as(input, program::run_file(File::open(path).unwrap())));
+        same(seed, printed.same_as(input, program::run_file(File::open(path).unwrap())));
     }
     let short = &bytes[..23];
     let pieces: Vec<&[u8]> = short.chunks(1).collect();
     same(
-        SEED,
+        seed,
         printed.same_as(short, program::run_in_pieces(&pieces, Duration::from_millis(1))),
     );
-    println!("pictures in pieces and from files, seed {}: {} inputs", SEED + 3, printed.inputs);
+    println!("pictures in pieces and from files, seed {seed}: {} inputs", printed.inputs);
 }

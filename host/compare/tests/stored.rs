@@ -8,23 +8,25 @@ const SEED: u64 = 401;
 /// Each number in a source of one to three pixels, at some place.
 #[test]
 fn sources() {
-    let (random, mut compare) = (&mut Random::new(SEED), Compare::new(&Library));
+    let seed = SEED;
+    let (random, mut compare) = (&mut Random::new(seed), Compare::new(&Library));
     for value in 0..=u16::MAX {
         let width = random.between(1, 3);
         let place = random.below(3 * width);
         let mut elements = values::accepted(random, compare::Kind::Stored, width);
         elements.set(place as usize, value as u32);
         let header = pages::header(width, 1, 180);
-        let (told, _) = same(SEED, compare.convert(elements.source(), header));
+        let (told, _) = same(seed, compare.convert(elements.source(), header));
         assert_eq!(told, if pages::is_channel(value) { (0, 0) } else { (8, place) }, "{value:04X}");
     }
-    println!("stored in sources, seed {SEED}: 65536 numbers, {}", compare.counts);
+    println!("stored in sources, seed {seed}: 65536 numbers, {}", compare.counts);
 }
 
 /// Each number in a channel word of a strip of one or two pixels: every call.
 #[test]
 fn words() {
-    let (random, mut compare) = (&mut Random::new(SEED + 1), Compare::new(&Library));
+    let seed = SEED + 1;
+    let (random, mut compare) = (&mut Random::new(seed), Compare::new(&Library));
     for value in 0..=u16::MAX {
         let width = random.between(1, 2);
         let place = random.below(3 * width);
@@ -35,16 +37,17 @@ fn words() {
             channels: (0..3 * width).map(|_| values::stored(random)).collect(),
         };
         page.channels[place as usize] = value;
-        let told = same(SEED, compare.strip(&page.strip()));
+        let told = same(seed, compare.strip(&page.strip()));
         assert_eq!(told, if pages::is_channel(value) { (0, 0) } else { (8, place + 2) }, "{value:04X}");
     }
-    println!("stored in words, seed {}: 65536 numbers, {}", SEED + 1, compare.counts);
+    println!("stored in words, seed {seed}: 65536 numbers, {}", compare.counts);
 }
 
 /// Each accepted number as a grey pixel and alone in each channel, in pages of 128 pixels.
 #[test]
 fn accepted() {
-    let (random, mut compare) = (&mut Random::new(SEED + 2), Compare::new(&Library));
+    let seed = SEED + 2;
+    let (random, mut compare) = (&mut Random::new(seed), Compare::new(&Library));
     let list: Vec<u16> = (0..=u16::MAX).filter(|&value| pages::is_channel(value)).collect();
     for part in list.chunks(128) {
         for shape in [[1, 1, 1], [1, 0, 0], [0, 1, 0], [0, 0, 1]] {
@@ -56,12 +59,12 @@ fn accepted() {
                 channels,
             };
             let made = same(
-                SEED,
+                seed,
                 compare.convert(Elements::Stored(page.channels.clone()).source(), page.header()),
             );
             assert_eq!(made, ((0, 0), page.strip()));
-            same(SEED, compare.strip(&page.strip()));
+            same(seed, compare.strip(&page.strip()));
         }
     }
-    println!("stored in pages, seed {}: {} numbers, {}", SEED + 2, list.len(), compare.counts);
+    println!("stored in pages, seed {seed}: {} numbers, {}", list.len(), compare.counts);
 }

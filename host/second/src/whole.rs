@@ -93,19 +93,6 @@ impl Whole {
         Whole::from_limbs(limbs)
     }
 
-    /// The number divided by 2^by, rounded down.
-    pub fn shifted_right(&self, by: usize) -> Whole {
-        let kept = self.limbs.get(by / 64..).unwrap_or(&[]);
-        let bits = by % 64;
-        let mut limbs = Vec::with_capacity(kept.len());
-        for (place, &limb) in kept.iter().enumerate() {
-            let above = kept.get(place + 1).copied().unwrap_or(0);
-            let carry = if bits == 0 { 0 } else { above << (64 - bits) };
-            limbs.push(limb >> bits | carry);
-        }
-        Whole::from_limbs(limbs)
-    }
-
     /// By repeated squaring; anything to the power 0 is 1.
     pub fn pow(&self, mut exponent: u32) -> Whole {
         let mut result = Whole::one();

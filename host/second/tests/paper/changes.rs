@@ -199,7 +199,7 @@ fn second_white_word() {
 /// "without it nothing differs".
 #[test]
 fn without_the_white_word() {
-    let mut generator = Generator(6);
+    let mut generator = Generator::new(6);
     for _ in 0..50 {
         let strip = stored_strip(&base(), &generator.page(20), 1 + generator.below(1000), None);
         assert_eq!(white().tally(&strip), base().tally(&strip));

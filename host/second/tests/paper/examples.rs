@@ -250,7 +250,7 @@ fn strip_form() {
 
 #[test]
 fn rows() {
-    let source = Generator(3).page(6);
+    let source = Generator::new(3).page(6);
     let strip = base().convert(Source::Stored(&source), header(2, 3, 1), 21).unwrap();
     assert_eq!(base().row(&strip, 0), Ok(2..8));
     assert_eq!(base().row(&strip, 1), Ok(8..14));
@@ -259,7 +259,7 @@ fn rows() {
 
 #[test]
 fn unpacking_undoes_converting() {
-    let source = Generator(4).page(500);
+    let source = Generator::new(4).page(500);
     let strip = stored_strip(&base(), &source, 180, None);
     assert_eq!(base().unpack(&strip, 1500), Ok(source));
 }

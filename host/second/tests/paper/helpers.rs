@@ -70,9 +70,15 @@ pub const EXAMPLE: [u32; 9] = [
 ];
 
 /// A linear congruential generator; the upper bits of its state are used.
-pub struct Generator(pub u64);
+pub struct Generator(u64);
 
 impl Generator {
+    /// Prints the seed; where the test fails, that is shown.
+    pub fn new(seed: u64) -> Generator {
+        println!("seed {seed}");
+        Generator(seed)
+    }
+
     pub fn next(&mut self) -> u64 {
         self.0 = self
             .0

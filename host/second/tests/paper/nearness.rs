@@ -46,7 +46,7 @@ fn mean_of_wild_reports() {
 /// The tally's own steps hold, and the exact bounds agree with the printed distance.
 #[test]
 fn means_of_generated_pages() {
-    let mut generator = Generator(7);
+    let mut generator = Generator::new(7);
     for nearest in [false, true] {
         let step = step(false, nearest);
         let (least, limit) = if nearest { (-0.5, 1.5) } else { (0.0, 2.0) };
@@ -122,7 +122,7 @@ fn clipped_values() {
 
 #[test]
 fn levels_of_generated_pages() {
-    let mut generator = Generator(8);
+    let mut generator = Generator::new(8);
     for round in 0..300 {
         let step = step(true, round % 2 == 0);
         let white = if round % 3 == 0 { None } else { Some(10 + generator.below(991)) };

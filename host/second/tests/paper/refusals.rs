@@ -209,7 +209,7 @@ fn nothing_panics() {
         nearest_steps: true,
         screen_curve: true,
     });
-    let mut generator = Generator(5);
+    let mut generator = Generator::new(5);
     for step in [base(), all] {
         for _ in 0..2000 {
             let mut strip = EXAMPLE.to_vec();
