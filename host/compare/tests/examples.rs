@@ -1,7 +1,9 @@
-//! The worked examples of document 01 through the C interface. Every expected value is the paper's.
+//! The worked examples of document 01 through the C interface. Every expected value is the paper's, or follows from its rules where a
+//! comment says how.
 
 use compare::pages::{header, stored, Page};
 use compare::{program, Calls, Elements, Library};
+use second::whole::Whole;
 
 /// The strip of a source of one row, or the refusal.
 fn strip(elements: &Elements, key: u64) -> Result<Vec<u32>, (u64, u64)> {
@@ -65,7 +67,7 @@ fn channels() {
 }
 
 /// T[M], read from the sum of one grey pixel of exponent 136, whose luminance is the channel itself. X[128], read from the average of two
-/// greys with T[128] = 1793 and T[255] = 2047 steps: 1920 is 256 · 7 + 128.
+/// greys with T[128] = 1793 and T[255] = 2047 steps: 1920 is 256 · 7 + 128, and 7 + 129 is 136.
 #[test]
 fn tables() {
     for (mantissa, steps) in [(128, 1793), (192, 1942), (255, 2047)] {
@@ -97,9 +99,10 @@ fn pages() {
     assert_eq!((tally.lit, tally.average), (1, 4095));
     assert_eq!(levels(&bright), [39, 39, 39, 0, 0, 0]);
 
-    // Luminance (127,137), read from its steps.
+    // Luminance (127,137), read from its steps 256(E−136) + T[M]. T[137] is the greatest t with 2^(t+256) ≤ 275^256.
     let red = Elements::Half(vec![0x3C00, 0, 0]);
-    let steps = 256 * (127 - 136) + (256.0 * 137.5_f64.log2()).floor() as i64;
+    let table_entry = Whole::from(275).pow(256).bit_length() as i64 - 1 - 256;
+    let steps = 256 * (127 - 136) + table_entry;
     assert_eq!(Library.tally(&strip(&red, 180).unwrap()).sum, steps);
     assert_eq!(levels(&strip(&red, 180).unwrap()), [145, 0, 0]);
     assert_eq!(levels(&strip(&red, 1000).unwrap()), [255, 0, 0]);

@@ -98,7 +98,7 @@ impl Number {
     }
 }
 
-/// "A channel is black, stored as (0,0), or lit."
+/// "A channel is black, stored as (0,0), or lit, stored as exponent E and mantissa M".
 #[derive(Clone, Copy, Debug, PartialEq, Eq)]
 pub enum Channel {
     Black,

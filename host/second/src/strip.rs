@@ -22,19 +22,19 @@ pub struct Header {
 }
 
 impl Header {
-    /// "bad size: width or height 0 or above 8,192, or more than 16,777,216 pixels".
+    /// Bad size: "width or height 0 or above 8,192, or more than 16,777,216 pixels".
     fn check_size(&self) -> Result<(), Refusal> {
         let side = 1..=8_192;
         let sides = side.contains(&self.width) && side.contains(&self.height);
         require(sides && self.width * self.height <= 16_777_216, BAD_SIZE)
     }
 
-    /// "bad key: K is 0 or above 1,000".
+    /// Bad key: "K is 0 or above 1,000".
     fn check_key(&self) -> Result<(), Refusal> {
         require((1..=1_000).contains(&self.key), BAD_KEY)
     }
 
-    /// "10 bad white, W below 10 or above 1,000".
+    /// "10 bad white, place 0, W below 10 or above 1,000".
     fn check_white(&self) -> Result<(), Refusal> {
         require(self.white.is_none_or(|white| (10..=1_000).contains(&white)), BAD_WHITE)
     }
@@ -59,7 +59,7 @@ impl Header {
         }
     }
 
-    /// "Length: 3 × pixels + 3"; "strips with the word are one longer".
+    /// "Length: 3 × pixels + 3"; "Strips with the word are one longer".
     pub(crate) fn strip_length(&self) -> usize {
         self.front() + 3 * self.pixels() + 1
     }
@@ -106,7 +106,7 @@ pub fn convert(rules: &Rules, source: Source, mut header: Header, room: usize) -
 }
 
 /// A strip without its channels: "fewer than two words is 3; then first word 7, size 1, second word 7, key 2,
-/// length 3"; for the white word "7 for spare bits, then 10, both between key and length".
+/// length 3"; for the white word "7 for spare bits, then 10 bad white .. both between key and length".
 fn read_header(rules: &Rules, strip: &[u32]) -> Result<Header, Refusal> {
     require(strip.len() >= 2, WRONG_LENGTH)?;
     require_at(kind(strip[0]) == SIZE, FOREIGN_WORD, 0)?;
@@ -128,7 +128,7 @@ fn read_header(rules: &Rules, strip: &[u32]) -> Result<Header, Refusal> {
     Ok(header)
 }
 
-/// "A strip may carry, third, a word of kind 3 with W in bits 15..0, spare bits zero."
+/// "A strip may carry, third, a word of kind 3 with W in bits 15..0, spare bits zero".
 fn read_white(strip: &[u32]) -> Result<Option<u64>, Refusal> {
     match strip.get(2) {
         Some(&third) if kind(third) == WHITE => {

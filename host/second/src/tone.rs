@@ -22,7 +22,7 @@ pub struct Tally {
     pub average: Option<Average>,
 }
 
-/// "A pixel is lit if any of its three channel words is."
+/// "A pixel is lit if any of its three channel words is".
 pub fn is_lit(pixel: &Pixel) -> bool {
     pixel.iter().any(Channel::is_lit)
 }
@@ -152,7 +152,7 @@ impl Displays {
     }
 }
 
-/// Steps 4 to 6 over a page: three levels a pixel. "If N = 0, all levels are 0."
+/// Steps 4 to 6 over a page: three levels a pixel. "If N = 0 .. all levels are 0."
 pub fn levels(pixels: impl Iterator<Item = Pixel>, header: &Header, average: Option<Average>) -> Vec<u8> {
     let Some(average) = average else {
         return vec![0; 3 * header.pixels()];
