@@ -137,7 +137,12 @@ fn print_table(clocks: &Clocks, pixels: usize) {
     print_row("check", &clocks.check, None, pixels);
     print_row("tally", &clocks.tally, Some(&clocks.double_mean), pixels);
     print_row("map", &clocks.map, Some(&clocks.double_tone), pixels);
-    print_row("tone step: check + tally + map", &clocks.tone, Some(&clocks.double_tone), pixels);
+    print_row(
+        "check, tally and map, one after another",
+        &clocks.tone,
+        Some(&clocks.double_tone),
+        pixels,
+    );
 }
 
 fn print_row(name: &str, library: &Clock, double: Option<&Clock>, pixels: usize) {
