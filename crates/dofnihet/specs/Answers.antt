@@ -7,8 +7,8 @@ use Rattle.refusal.specs.Refusals.{outcomeOf}
 use Rattle.word.specs.declared.header.Header.{Header}
 use Rattle.strip.specs.declared.read.HeaderOrRefusal.{HeaderOrRefusal}
 use Rattle.strip.specs.declared.read.HeaderOrRefusal.the-variants.{Holds, Refuses}
-use Rattle.strip.specs.declared.row.RowOrRefusal.{RowOrRefusal}
-use Rattle.strip.specs.declared.row.RowOrRefusal.the-variants.{Holds as RowHolds, Refuses as RowRefuses}
+use Rattle.row.specs.declared.RowOrRefusal.{RowOrRefusal}
+use Rattle.row.specs.declared.RowOrRefusal.the-variants.{Holds as RowHolds, Refuses as RowRefuses}
 use Rattle.average.specs.declared.average.Average.{Average}
 use Rattle.average.specs.declared.average.Average.the-variants.{Absent, Present}
 use Rattle.average.specs.declared.tally.Tally.{Tally}

@@ -1,10 +1,10 @@
 // Rows of a strip: no reference crosses to C, so a row is told by where it stands.
 ghost use mathlib.Core.Path.{_≡_};
-ghost use Rattle.strip.specs.Reading.{findRow};
+ghost use Rattle.row.specs.Rows.{findRow};
 ghost use Rattle.dofnihet.specs.Answers.{rowAnswer};
 use refusal::outcome_of;
-use strip::row::RowOrRefusal;
-use strip::row::find_row;
+use row::RowOrRefusal;
+use row::find_row;
 
 // A row: `length` words of the strip, from the index `start` on; a refusal has 0 in both.
 #[repr(C)]

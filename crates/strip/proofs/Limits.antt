@@ -1,6 +1,6 @@
 -- What an accepted header, strip or row keeps to. Assumes nothing.
-use Prim.Native.Nat.{ℕ, zero, suc, _+_, _*_, _≤_, _<_}
-use mathlib.Core.Path.{_≡_, refl, sym, ap, _∙_}
+use Prim.Native.Nat.{ℕ, _+_, _*_, _≤_}
+use mathlib.Core.Path.{_≡_, refl}
 use mathlib.Core.List.{List}
 use mathlib.Core.Bool.{true}
 use native.Mathlib.Nat.{mul-le-mul-left, mul-suc}
@@ -13,10 +13,6 @@ use Rattle.refusal.specs.Verdicts.{require, andThen}
 use Rattle.refusal.proofs.Laws.{require-passed, and-passed, and-met}
 use Rattle.word.specs.Words.{endIndex, pixels, sizeFits, keyFits, sizeWord, keyWord, endWord}
 use Rattle.word.specs.Placing.{firstRefusal}
-use Rattle.strip.specs.declared.row.Part.{Part}
-use Rattle.strip.specs.declared.row.RowOrRefusal.the-variants.{Holds, Refuses}
-use Rattle.strip.specs.Claims.{RowsInBody}
-use Rattle.strip.specs.Reading.{rowPart, rowUnder, findRow, partOf}
 use Rattle.strip.specs.Checks.{
   wordAt,
   headerFields,
@@ -120,22 +116,3 @@ row-limits s y e =
     let q = whole _ s e in
     let below = ltb-true y (headerFields s .height) (require-passed _ _ _ _ (q .0) .0) in
     record { strip = q .1; inside = rw mul-suc at (mul-le-mul-left (headerFields s .width) below) }
-
-pub rows-in-body : RowsInBody
-rows-in-body s y e =
-    let q = row-limits s y e in
-    record { start = omega arith; end = omega (arith, q .inside); there = omega (arith, q .strip .head .long) }
-
--- a row that is found lies before the strip's last word
-pub found-inside : (s : List ℕ) (y : ℕ) (p : Part) → findRow s y ≡ Holds p → p .start + p .count < length s
-found-inside s y p e = go (checkRow s y) refl
-  where
-    go : (v : Verdict) → checkRow s y ≡ v → p .start + p .count < length s
-    go Accepted c =
-        let q = rows-in-body s y c in
-        let same : rowPart s y ≡ p = ap partOf (sym (ap (λ v. rowUnder v (rowPart s y)) c) ∙ e) in
-        rw (← same) (omega (arith, q .end, q .there))
-    go (Refused r i) c =
-        let none : Refuses r i ≡ Holds p = sym (ap (λ v. rowUnder v (rowPart s y)) c) ∙ e in
-        let clash : suc zero ≡ zero = cc in
-        absurd (omega (arith, clash))

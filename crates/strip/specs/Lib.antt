@@ -1,4 +1,3 @@
 pub mod Checks
 pub mod Reading
 pub mod Output
-pub mod Claims

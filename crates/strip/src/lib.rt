@@ -1,4 +1,3 @@
-// The strip: its words checked, its header and channels read back, one row of it.
+// The strip: its words checked, its header and channels read back.
 pub mod check;
 pub mod read;
-pub mod row;

@@ -1,4 +1,4 @@
--- `strip::row::row` meets its contract. Assumes nothing.
+-- `row::row` meets its contract. Assumes nothing.
 use borrow.Author.Needs.{needs}
 use Prim.Native.Nat.{_+_, _<_}
 use mathlib.Core.Path.{_≡_, sym, _∙_}
@@ -6,11 +6,11 @@ use native.Mathlib.Omega.{arith}
 use native.Mathlib.Nat.{add-sub-cancel-left, zero-add}
 use lib.ListN.{length}
 use denote.Ref.{now}
-use Rattle.strip.specs.declared.row.RowOrRefusal.the-variants.{Holds}
-use Rattle.strip.specs.Reading.{findRow}
-use Rattle.strip.proofs.Limits.{found-inside}
-use Rattle.strip.proofs.row.row.Statement.{statement}
-use Rattle.strip.proofs.row.row.Tie as tie
+use Rattle.row.specs.declared.RowOrRefusal.the-variants.{Holds}
+use Rattle.row.specs.Rows.{findRow}
+use Rattle.row.proofs.Rows.{found-inside}
+use Rattle.row.proofs.row.Statement.{statement}
+use Rattle.row.proofs.row.Tie as tie
 
 returns : tie.Need-returns
 returns c =

@@ -1,9 +1,9 @@
 // One row of a strip: where it stands, and the row handed back as that part of the strip.
 ghost use mathlib.Core.Path.{_≡_};
-ghost use Rattle.strip.specs.Reading.{findRow, rowOf, wordsOf, pointerTo};
-use crate::check::check_row;
+ghost use Rattle.row.specs.Rows.{findRow, rowOf, wordsOf, pointerTo};
 use refusal::Refusal;
 use refusal::Verdict;
+use strip::check::check_row;
 use word::body::BODY_START;
 use word::header::width_in;
 

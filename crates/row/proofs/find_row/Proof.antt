@@ -1,13 +1,13 @@
--- `strip::row::find_row` meets its contract. Assumes nothing.
+-- `row::find_row` meets its contract. Assumes nothing.
 use borrow.Author.Needs.{needs}
 use Prim.Native.Nat.{_+_, _*_, _<_}
 use mathlib.Core.Path.{sym, _∙_}
 use native.Mathlib.Omega.{arith}
 use lib.ListN.{length}
 use denote.Ref.{now}
 use Rattle.strip.proofs.Limits.{Inside, row-limits}
-use Rattle.strip.proofs.row.find_row.Statement.{statement}
-use Rattle.strip.proofs.row.find_row.Tie as tie
+use Rattle.row.proofs.find_row.Statement.{statement}
+use Rattle.row.proofs.find_row.Tie as tie
 
 -- what holds once the row is accepted
 inside : (c : tie.After-shared-slice-known2) → let a = c .before .before .before .before .before .args in Inside (now (a .strip)) (a .y)
