@@ -15,7 +15,8 @@ use Rattle.refusal.specs.Verdicts.{andThen}
 use Rattle.refusal.proofs.Laws.{require-passed}
 use Rattle.word.specs.declared.header.Header.{Header}
 use Rattle.word.specs.Words.{pixels, sizeFits, keyFits, sizeWord, keyWord, bodyWords, endWord, endIndex, stripLength, stripOf}
-use Rattle.word.specs.Placing.{Placed, firstRefusal, channelIn, channelsOf}
+use Rattle.number.specs.Channels.{channelIn}
+use Rattle.word.specs.Placing.{Placed, firstRefusal, channelsOf}
 use Rattle.strip.specs.Output.{onto, after}
 use Rattle.strip.proofs.Outputs.{sets-front}
 use Rattle.word.proofs.Walks.{length-placed, length-words}

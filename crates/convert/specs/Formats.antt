@@ -2,10 +2,10 @@
 use Prim.Native.Nat.{ℕ, _+_}
 use mathlib.Core.List.{List, [], _∷_, _++_}
 use Rattle.number.specs.declared.channel.Decoded.{Decoded}
-use Rattle.number.specs.Channels.{codeOf, channelOfCode}
+use Rattle.number.specs.Channels.{codeOf, channelOfCode, channelIn}
 use Rattle.number.specs.Sources.{channelOfValue, halfValue, singleValue, rgbeValue}
 use Rattle.word.specs.Words.{channelWord}
-use Rattle.word.specs.Placing.{Placed, placed, channelIn}
+use Rattle.word.specs.Placing.{Placed, placed}
 
 -- "RGBE", "Half", "single", "Stored"
 pub data Format : Type 0 where

@@ -22,6 +22,7 @@ use Rattle.number.specs.Channels.{
   worthOf,
   codeOf,
   channelOfCode,
+  Coded,
 }
 use Rattle.number.specs.declared.channel.Channel.{Channel}
 use Rattle.number.specs.declared.channel.Channel.the-variants.{Black, Lit}
@@ -101,11 +102,6 @@ code-channel (Lit E M) t =
       le-leb E greatestExponent (t .most),
       le-leb leastMantissa M (t .mantissa .least),
     )
-
--- a channel and the number that it came from
-pub record Coded (n : ℕ) (c : Channel) : Type 0 where
-  pub code : codeOf c ≡ n
-  pub valid : IsChannel c
 
 pub channel-code : (n : ℕ) (c : Channel) → channelOfCode n ≡ Holds c → Coded n c
 unfolding channelOfCode

@@ -7,7 +7,7 @@ pub use Rattle.number.specs.Lists.{Every}
 pub use Rattle.number.proofs.Lists.{every-map, every-take}
 pub use Rattle.number.specs.Fractions.{Frac, _over_, _·_, _÷_, _times_, power, twoToMinus, twoTo, Positive, Equal, AtMost, Below, Near}
 pub use Rattle.number.specs.Storing.{Normalised, Scales, IsMantissa, Promised, Stores, unit, worth, storedWorth, storedOf, ratioOf}
-pub use Rattle.number.specs.Channels.{IsLit, IsChannel, worthOf}
+pub use Rattle.number.specs.Channels.{IsLit, IsChannel, worthOf, codeOf, codeChannel, Coded, IsCode}
 -- existence and uniqueness of exponent, which is a difference, and mantissa; what storing promises
 pub use Rattle.number.proofs.Storing.{scales-exist}
 pub use Rattle.number.proofs.Scaling.{same-difference, unique-exponent, unique-mantissa, promised}
@@ -28,5 +28,5 @@ pub use Rattle.number.proofs.Normalised.{cell}
 pub use Rattle.number.proofs.Sticky.{sticky-bit}
 -- the order of 256E + M; channels
 pub use Rattle.number.proofs.Storing.{code-order, code-mono}
-pub use Rattle.number.proofs.Channels.{Coded, code-channel, channel-code, channel-order, channel-valid}
+pub use Rattle.number.proofs.Channels.{code-channel, channel-code, channel-order, channel-valid}
 pub use Rattle.number.proofs.Sources.{half-valid, single-valid, rgbe-valid}

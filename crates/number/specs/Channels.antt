@@ -1,4 +1,5 @@
 -- What a channel is: "black, stored as (0,0), or lit, stored as exponent E and mantissa M". Assumes nothing.
+use mathlib.Core.Path.{_≡_}
 use mathlib.Core.Bool.{cond, _&&_}
 use Prim.Native.Nat.{ℕ, _+_, _*_, _/_, _%_, _≤_}
 use lib.Dec.{leb, eqb}
@@ -56,3 +57,20 @@ channelOfCode n =
     (cond (leb leastExponent (n / 256) && leb (n / 256) greatestExponent && leb leastMantissa (n % 256))
     (Holds (Lit (n / 256) (n % 256)))
     (Refuses InvalidChannel))
+
+-- the channel that a number becomes; black where it is refused
+abbrev pub channelIn : Decoded → Channel
+channelIn (Holds c) = c
+channelIn (Refuses r) = Black
+
+abbrev pub codeChannel : (n : ℕ) → Channel
+codeChannel n = channelIn (channelOfCode n)
+
+-- a channel and the number that it came from
+pub record Coded (n : ℕ) (c : Channel) : Type 0 where
+  pub code : codeOf c ≡ n
+  pub valid : IsChannel c
+
+-- a number that a channel has
+abbrev pub IsCode : (n : ℕ) → Type 0
+IsCode n = Coded n (codeChannel n)

@@ -11,14 +11,14 @@ use Rattle.number.specs.declared.channel.Channel.{Channel}
 use Rattle.number.specs.declared.channel.Channel.the-variants.{Black, Lit}
 use Rattle.number.specs.declared.channel.Decoded.{Decoded}
 use Rattle.number.specs.declared.channel.Decoded.the-variants.{Holds}
-use Rattle.number.specs.Channels.{IsChannel, codeOf}
+use Rattle.number.specs.Channels.{IsChannel, codeOf, channelIn}
 use Rattle.number.proofs.Laws.{Every, code-channel}
 use Rattle.refusal.specs.declared.Verdict.{Verdict}
 use Rattle.refusal.specs.declared.Verdict.the-variants.{Accepted}
 use Rattle.refusal.proofs.Laws.{and-passed, and-met, require-met}
 use Rattle.word.specs.declared.header.Header.{Header}
 use Rattle.word.specs.Words.{pixels, sizeFits, keyFits, sizeWord, keyWord, channelWord, bodyWords, endWord, endIndex, stripLength, stripOf}
-use Rattle.word.specs.Placing.{Placed, placed, firstRefusal, channelIn, channelsOf}
+use Rattle.word.specs.Placing.{Placed, placed, firstRefusal, channelsOf}
 use Rattle.strip.specs.Checks.{
   wordAt,
   headerFields,

@@ -1,2 +1,3 @@
 pub mod Levels
 pub mod Claims
+pub mod Factors

@@ -8,14 +8,14 @@ use borrow.Author.Tests.{eqb-true}
 use Rattle.number.specs.declared.channel.Channel.{Channel}
 use Rattle.number.specs.declared.channel.Decoded.{Decoded}
 use Rattle.number.specs.declared.channel.Decoded.the-variants.{Holds, Refuses}
-use Rattle.number.specs.Channels.{channelOfCode}
+use Rattle.number.specs.Channels.{channelOfCode, channelIn}
 use Rattle.number.proofs.Laws.{Coded, channel-code}
 use Rattle.refusal.specs.declared.Refusal.the-variants.{UnexpectedWord}
 use Rattle.refusal.specs.declared.Verdict.the-variants.{Accepted}
 use Rattle.refusal.proofs.Laws.{and-passed}
 use Rattle.word.specs.Words.{channelWord}
 use Rattle.word.specs.Fields.{low16, decodeWord}
-use Rattle.word.specs.Placing.{Placed, verdictAt, firstRefusal, decodedOf, channelIn, channelsOf}
+use Rattle.word.specs.Placing.{Placed, verdictAt, firstRefusal, decodedOf, channelsOf}
 
 -- what is accepted holds its channel
 pub holds : (i : ℕ) (d : Decoded) → verdictAt i d ≡ Accepted → d ≡ Holds (channelIn d)

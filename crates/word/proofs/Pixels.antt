@@ -11,10 +11,9 @@ use Rattle.number.specs.declared.channel.Channel.the-variants.{Black}
 use Rattle.number.specs.declared.channel.Decoded.{Decoded}
 use Rattle.number.specs.declared.channel.Decoded.the-variants.{Holds, Refuses}
 use Rattle.number.specs.declared.channel.Pixel.{Pixel}
-use Rattle.number.specs.Channels.{channelOfCode}
+use Rattle.number.specs.Channels.{channelOfCode, channelIn}
 use Rattle.number.proofs.Laws.{IsChannel, channel-code, code-channel}
 use Rattle.word.specs.Fields.{low16, decodeWord}
-use Rattle.word.specs.Placing.{channelIn}
 use Rattle.word.specs.Pixels.{pixelOf, pixelsOf, wordChannel, wordPixels}
 use Rattle.word.proofs.Decoding.{is-word}
 

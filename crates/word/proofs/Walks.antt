@@ -14,9 +14,9 @@ use Rattle.refusal.specs.declared.Verdict.{Verdict}
 use Rattle.refusal.specs.declared.Verdict.the-variants.{Accepted}
 use Rattle.refusal.specs.Verdicts.{andThen}
 use Rattle.refusal.proofs.Laws.{and-assoc}
-use Rattle.number.specs.Channels.{codeOf}
+use Rattle.number.specs.Channels.{codeOf, channelIn}
 use Rattle.word.specs.Words.{channelWord, bodyWords}
-use Rattle.word.specs.Placing.{Placed, placed, verdictAt, firstRefusal, channelIn, channelsOf}
+use Rattle.word.specs.Placing.{Placed, placed, verdictAt, firstRefusal, channelsOf}
 
 -- ---- A loop that checks: at each turn the verdict on the elements that are left, from number i on, is that on all.
 

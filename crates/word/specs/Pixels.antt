@@ -3,9 +3,8 @@ use Prim.Native.Nat.{ℕ}
 use mathlib.Core.List.{List, [], _∷_, map}
 use Rattle.number.specs.declared.channel.Channel.{Channel}
 use Rattle.number.specs.declared.channel.Pixel.{Pixel}
-use Rattle.number.specs.Channels.{channelOfCode}
+use Rattle.number.specs.Channels.{codeChannel}
 use Rattle.word.specs.Fields.{low16}
-use Rattle.word.specs.Placing.{channelIn}
 
 -- "red, green, blue of each pixel in turn": channels by threes
 abbrev pub pixelOf : (red green blue : Channel) → Pixel
@@ -19,7 +18,7 @@ pixelsOf [] = []
 
 -- the channel of an accepted word; of any other that of its lower half, black where that is none
 abbrev pub wordChannel : (w : ℕ) → Channel
-wordChannel w = channelIn (channelOfCode (low16 w))
+wordChannel w = codeChannel (low16 w)
 
 -- the pixels of channel words
 abbrev pub wordPixels : List ℕ → List Pixel

@@ -2,9 +2,9 @@
 use Prim.Native.Nat.{ℕ, suc, _+_}
 use mathlib.Core.List.{List, [], _∷_, map}
 use Rattle.number.specs.declared.channel.Channel.{Channel}
-use Rattle.number.specs.declared.channel.Channel.the-variants.{Black}
 use Rattle.number.specs.declared.channel.Decoded.{Decoded}
 use Rattle.number.specs.declared.channel.Decoded.the-variants.{Holds, Refuses}
+use Rattle.number.specs.Channels.{channelIn}
 use Rattle.refusal.specs.declared.Verdict.{Verdict}
 use Rattle.refusal.specs.declared.Verdict.the-variants.{Accepted, Refused}
 use Rattle.refusal.specs.Verdicts.{andThen}
@@ -33,9 +33,5 @@ abbrev pub decodedOf : List Placed → List Decoded
 decodedOf ps = map (λ (p : Placed). p .decoded) ps
 
 -- the channels of a row in which none is refused
-abbrev pub channelIn : Decoded → Channel
-channelIn (Holds c) = c
-channelIn (Refuses r) = Black
-
 abbrev pub channelsOf : List Placed → List Channel
 channelsOf ps = map (λ (p : Placed). channelIn (p .decoded)) ps

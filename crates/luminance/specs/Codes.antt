@@ -1,0 +1,31 @@
+-- A pixel by the 16-bit forms of its channels, and its luminance as a number for tables. Assumes nothing.
+use mathlib.Core.Path.{_≡_}
+use mathlib.Core.List.{List}
+use Prim.Native.Nat.{ℕ, _+_, _-_, _*_, _/_, _%_, _^_, _<_}
+use lib.ListN.{getD}
+use Rattle.number.proofs.Laws.{codeChannel}
+use Rattle.number.specs.declared.channel.Pixel.{Pixel}
+use Rattle.number.specs.declared.ratio.Stored.{Stored}
+use Rattle.luminance.specs.declared.pixel.Luminance.{Luminance}
+use Rattle.luminance.specs.declared.pixel.Luminance.the-variants.{Unlit}
+
+-- the pixel of three codes
+abbrev pub codePixel : (red green blue : ℕ) → Pixel
+codePixel r g b = record { red = codeChannel r; green = codeChannel g; blue = codeChannel b }
+
+-- Luminances in a row: 128 mantissas an exponent, from exponent 66 on, so that 0 is left for an unlit pixel.
+abbrev pub indexOf : Luminance → ℕ
+indexOf Unlit = 0
+indexOf (Luminance.Lit y) = 128 * (y .exponent - 66) + (y .mantissa - 128)
+
+-- one more than the index of (184,255)
+abbrev pub indexCount : ℕ
+indexCount = 15232
+
+-- the luminance at an index from 128 on
+abbrev pub storedAt : (i : ℕ) → Stored
+storedAt i = record { exponent = i / 128 + 66; mantissa = i % 128 + 128 }
+
+-- weight · 2^i, for i up to 47
+pub record IsWeightTable (weight : ℕ) (entries : List ℕ) : Type 0 where
+  pub entry : (i : ℕ) → i < 48 → getD entries i 0 ≡ weight * 2 ^ i
