@@ -3,6 +3,8 @@
 -- steps 4 to 6: the range of a scaled luminance; black gives 0
 pub use Rattle.tone.proofs.Scaled.{is-scaled}
 pub use Rattle.tone.proofs.LevelSteps.{black-level}
+-- the bound of a factor
+pub use Rattle.tone.proofs.Factors.{factor-most}
 -- the second half of demand 3, for every curve that never stretches a ratio, and for L/(1+L)
 pub use Rattle.tone.proofs.Curves.{NeverStretches, reinhard-ratio}
 pub use Rattle.tone.proofs.LevelBounds.{pixel-bound}

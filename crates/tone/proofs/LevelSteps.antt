@@ -13,31 +13,38 @@ use Rattle.luminance.proofs.Products.{power-difference}
 use Rattle.tone.proofs.Rounding.{nearest-equal}
 
 -- the larger power is the other and some places more
-apart : (a b k : ℕ) → a + k ≤ b → 2 ^ a * 2 ^ k ≤ 2 ^ b
+pub apart : (a b k : ℕ) → a + k ≤ b → 2 ^ a * 2 ^ k ≤ 2 ^ b
 apart a b k h = le-trans (le-of-eq (sym (pow-add 2 a k))) (pow-mono h)
 
-module _ (num up den down : ℕ) (n : (255 ≤ num) × (num < 2 ^ 26)) (d : (1 ≤ den) × (den ≤ 511)) where
+-- the level of a fraction from 255 on, and of one below 1/2
+pub full-level : (x : Frac) → 0 < x .den → 255 * x .den ≤ x .num → 255 ≡ min 255 (nearestWhole x)
+full-level x pos h = sym (min-eq-left (le-div-iff-mul-le (mul-pos {m = 2} (omega arith) pos) .1 (omega arith)))
+
+pub dark-level : (x : Frac) → 2 * x .num < x .den → 0 ≡ min 255 (nearestWhole x)
+dark-level x h = ap (min 255) (sym (div-eq-of-lt (omega arith)))
+
+module _ (num up den down : ℕ) (d : 0 < den) where
   abbrev x : Frac
   x = num * 2 ^ up over den * 2 ^ down
 
-  pub full : down + 9 ≤ up → 255 ≡ min 255 (nearestWhole x)
-  full h = sym (min-eq-left (le-div-iff-mul-le (mul-pos {m = 2} (omega arith) pos) .1 (most (2 ^ up) (2 ^ down) (apart down up 9 h))))
-    where
-      pos : 0 < den * 2 ^ down
-      pos = mul-pos (d .0) (pow-pos down)
+  pos : 0 < x .den
+  pos = mul-pos d (pow-pos down)
 
-      most : (p q : ℕ) → q * 2 ^ 9 ≤ p → 255 * (2 * (den * q)) ≤ 2 * (num * p) + den * q
-      most p q h = omega (arith, mul-le-mul-right q (d .1), mul-le-mul-right p (n .0))
-
-  pub dark : up + 27 ≤ down → 0 ≡ min 255 (nearestWhole x)
-  dark h = ap (min 255) (sym (div-eq-of-lt (least (2 ^ up) (2 ^ down) (pow-pos up) (apart up down 27 h))))
+  pub full : 255 ≤ num → den ≤ 511 → down + 9 ≤ up → 255 ≡ min 255 (nearestWhole x)
+  full n e h = full-level x pos (most (2 ^ up) (2 ^ down) (apart down up 9 h))
     where
-      least : (p q : ℕ) → 0 < p → p * 2 ^ 27 ≤ q → 2 * (num * p) + den * q < 2 * (den * q)
-      least p q o h = omega (arith, mul-le-mul-right q (d .0), mul-le-mul-right p (n .1))
+      most : (p q : ℕ) → q * 2 ^ 9 ≤ p → 255 * (den * q) ≤ num * p
+      most p q h = omega (arith, mul-le-mul-right q e, mul-le-mul-right p n)
+
+  pub dark : num < 2 ^ 26 → up + 27 ≤ down → 0 ≡ min 255 (nearestWhole x)
+  dark n h = dark-level x (least (2 ^ up) (2 ^ down) (pow-pos up) (apart up down 27 h))
+    where
+      least : (p q : ℕ) → 0 < p → p * 2 ^ 27 ≤ q → 2 * (num * p) < den * q
+      least p q o h = omega (arith, mul-le-mul-right q d, mul-le-mul-right p n)
 
   pub raised : (s : ℕ) → down ≤ up → s ≡ num * 2 ^ (up - down) → min 255 (nearestWhole (s over den)) ≡ min 255 (nearestWhole x)
   raised s h q =
-      ap (min 255) (nearest-equal (s over den) x (d .0) (mul-pos (d .0) (pow-pos down))
+      ap (min 255) (nearest-equal (s over den) x d pos
       (record { cross = ap (λ (z : ℕ). z * (den * 2 ^ down)) q ∙ regroup (2 ^ (up - down)) (2 ^ down) (2 ^ up) (power-difference up down h) }))
     where
       regroup : (p q r : ℕ) → p * q ≡ r → num * p * (den * q) ≡ num * r * den
@@ -45,11 +52,11 @@ module _ (num up den down : ℕ) (n : (255 ≤ num) × (num < 2 ^ 26)) (d : (1 �
 
   pub lowered : (s : ℕ) → up ≤ down → s ≡ den * 2 ^ (down - up) → min 255 (nearestWhole (num over s)) ≡ min 255 (nearestWhole x)
   lowered s h q =
-      ap (min 255) (nearest-equal (num over s) x pos (mul-pos (d .0) (pow-pos down))
+      ap (min 255) (nearest-equal (num over s) x some pos
       (record { cross = regroup (2 ^ (down - up)) (2 ^ up) (2 ^ down) (power-difference down up h) ∙ sym (ap (λ (z : ℕ). num * 2 ^ up * z) q) }))
     where
-      pos : 0 < s
-      pos = subst (λ (z : ℕ). 0 < z) (sym q) (mul-pos (d .0) (pow-pos (down - up)))
+      some : 0 < s
+      some = subst (λ (z : ℕ). 0 < z) (sym q) (mul-pos d (pow-pos (down - up)))
 
       regroup : (p q r : ℕ) → p * q ≡ r → num * (den * r) ≡ num * q * (den * p)
       regroup p q r f = omega (arith, ap (λ (z : ℕ). num * den * z) f)

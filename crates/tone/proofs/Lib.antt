@@ -4,6 +4,10 @@ pub mod Laws
 pub mod Scaled
 pub mod Displays
 pub mod LevelSteps
+-- step 6 by factors
+pub mod Filling
+pub mod Powers
+pub mod Factors
 -- the second half of demand 3
 pub mod Close
 pub mod Curves

@@ -1,2 +1,3 @@
 // Steps 4 to 6: display luminance and the level of a channel.
+pub mod factor;
 pub mod level;

@@ -23,13 +23,13 @@ scaled-level-spec =
     tie.close
     (tie.spec
     (λ c. search needs)
-    (λ c. full _ _ _ _ (omega arith) (omega arith) (c .if1 .taken))
+    (λ c. full _ _ _ _ (omega arith) (omega arith) (omega arith) (c .if1 .taken))
     (λ c. search needs)
     (λ c. dark _ _ _ _ (omega arith) (omega arith) (c .if2 .taken))
     (λ c κs. omega (arith, up c))
     (λ c κs. omega (arith, up (c .before)))
-    (λ c. c .nearest-level .ensures ∙ raised _ _ _ _ (omega arith) (omega arith) _ (omega arith) (c .before .shift-left .ensures))
+    (λ c. c .nearest-level .ensures ∙ raised _ _ _ _ (omega arith) _ (omega arith) (c .before .shift-left .ensures))
     (λ c. search needs)
     (λ c κs. omega (arith, down c))
     (λ c κs. omega (arith, down (c .before)))
-    (λ c. c .nearest-level2 .ensures ∙ lowered _ _ _ _ (omega arith) (omega arith) _ (omega arith) (c .before .shift-left2 .ensures)))
+    (λ c. c .nearest-level2 .ensures ∙ lowered _ _ _ _ (omega arith) _ (omega arith) (c .before .shift-left2 .ensures)))
