@@ -2,3 +2,5 @@ pub mod Luminances
 pub mod Walks
 pub mod Strips
 pub mod Bounds
+pub mod Indices
+pub mod Factors

@@ -1,6 +1,6 @@
 -- What the tally and the levels of an accepted strip rest on. Assumes nothing.
 use Prim.Native.Nat.{ℕ, _*_, _≤_}
-use mathlib.Core.Path.{_≡_, _∙_}
+use mathlib.Core.Path.{_≡_, sym, _∙_}
 use mathlib.Core.List.{List, map}
 use native.Mathlib.Omega.{arith}
 use lib.IntN.{ℤ}
@@ -13,6 +13,7 @@ use Rattle.number.proofs.Laws.{Every}
 use Rattle.word.specs.Words.{pixels}
 use Rattle.word.proofs.Limits.{size-limits, key-limits}
 use Rattle.strip.specs.Checks.{headerFields, bodyPart}
+use Rattle.strip.specs.Output.{onto}
 use Rattle.strip.specs.Reading.{stripPixels}
 use Rattle.strip.proofs.Limits.{Whole}
 use Rattle.strip.proofs.Bodies.{pixels-in}
@@ -26,7 +27,9 @@ use Rattle.luminance.specs.Pixels.{IsPixel}
 use Rattle.average.specs.Tallies.{sumOf, tallyOf}
 use Rattle.average.proofs.Laws.{tally-is-sum, sum-fits, sum-has-average}
 use Rattle.page.specs.Tallying.{stripLuminances, stripAverage}
+use Rattle.page.specs.Indices.{indexed, indexBytes, HoldsIndices}
 use Rattle.page.specs.Mapping.{levelsOf, levelsUnder, pageLevels, stripLevels}
+use Rattle.page.proofs.Indices.{indices-held, onto-again}
 use Rattle.page.proofs.Walks.{length-bytes}
 use Rattle.page.proofs.Luminances.{pixels-valid, every-luminance, luminances-few}
 
@@ -74,3 +77,15 @@ module _ (s : List ℕ) (ok : Whole s) where
       go (Present A average) =
           let f = levelsOf (headerFields s .key) average in
           length-bytes (map f (stripPixels s)) ∙ rw (length-map (stripPixels s) f)
+
+  -- the indices of its luminances in an output
+  module _ (old : List ℕ) {t : List ℕ} (e : t ≡ onto (indexBytes (stripPixels s)) old) where
+    pub strip-indices : HoldsIndices 0 (bodyPart s) t
+    strip-indices = rw (e, pixels-in s (ok .channels)) (indices-held (bodyPart s) old)
+
+    pub over-indices : onto (stripLevels s) t ≡ onto (stripLevels s) old
+    over-indices =
+        let ps = stripPixels s in
+        let n : length (indexBytes ps) ≡ length (stripLevels s) =
+        length-bytes (map indexed ps) ∙ rw (length-map ps indexed, count-pixels s ok) (sym length-levels) in
+        rw e (onto-again (indexBytes ps) (stripLevels s) old n)

@@ -14,7 +14,7 @@ use Rattle.average.specs.Averages.{IsSum}
 use Rattle.luminance.specs.Pixels.{IsPixel, luminanceOf}
 use Rattle.average.specs.Tallies.{tallyOf}
 use Rattle.average.proofs.Laws.{tally-is-sum}
-use Rattle.page.specs.declared.body_levels.Levels.{Levels}
+use Rattle.page.specs.declared.levels.Levels.{Levels}
 use Rattle.page.specs.Tallying.{luminancesOf, withPixel}
 use Rattle.page.specs.Mapping.{levelBytes}
 use Rattle.page.proofs.Luminances.{tally-pixel, luminances-few, pixels-valid, every-luminance}

@@ -1,3 +1,5 @@
 pub mod Tallying
 pub mod Mapping
+pub mod Indices
+pub mod FactorTables
 pub mod Claims

@@ -14,7 +14,7 @@ use Rattle.luminance.specs.declared.pixel.Luminance.{Luminance}
 use Rattle.luminance.specs.declared.pixel.Luminance.the-variants.{Unlit, Lit}
 use Rattle.tone.specs.Levels.{reinhard, mappedLevel}
 use Rattle.luminance.specs.Pixels.{luminanceOf}
-use Rattle.page.specs.declared.body_levels.Levels.{Levels}
+use Rattle.page.specs.declared.levels.Levels.{Levels}
 use Rattle.page.specs.Tallying.{stripAverage}
 
 -- a level for each channel of a pixel

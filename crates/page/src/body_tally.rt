@@ -1,53 +1,102 @@
-// An accepted strip tallied, pixel by pixel.
+// An accepted strip tallied, pixel by pixel; where an output is lent, it keeps each pixel's luminance for the levels.
 ghost use mathlib.Core.Path.{_≡_};
 ghost use Prim.Native.Nat.{_^_, _≤_, _<_};
 ghost use lib.ListN.{length};
 ghost use Rattle.refusal.specs.declared.Verdict.{Verdict};
-ghost use Rattle.strip.specs.Checks.{checkStrip};
+ghost use Rattle.number.specs.Channels.{IsCode};
+ghost use Rattle.strip.specs.Checks.{channelCount, checkStrip};
+ghost use Rattle.strip.specs.Output.{onto};
+ghost use Rattle.strip.specs.Reading.{stripPixels};
 ghost use Rattle.average.specs.Averages.{IsSum};
-ghost use Rattle.luminance.specs.Pixels.{IsPixel, luminanceOf};
+ghost use Rattle.luminance.specs.Codes.{IsWeightTable, indexOf, indexCount};
+ghost use Rattle.luminance.specs.Pixels.{luminanceOf};
 ghost use Rattle.average.specs.Tables.{IsLogTable};
 ghost use Rattle.average.specs.Tallies.{tallyOf};
-ghost use Rattle.word.specs.Pixels.{wordPixels};
+ghost use Rattle.word.specs.Fields.{low16};
+ghost use Rattle.word.specs.Pixels.{pixelOf, wordChannel, wordPixels};
 ghost use Rattle.page.specs.Tallying.{withPixel, luminancesOf, stripLuminances};
+ghost use Rattle.page.specs.Indices.{AreCodes, luminanceAt, IsIndex, indexLevels, indexBytes};
+use crate::levels::Levels;
+use crate::levels::store_levels;
 use average::tables::log_table;
 use average::tally::Tally;
 use average::tally::no_luminance;
 use average::tally::with_luminance;
-use luminance::pixel::Luminance;
-use luminance::pixel::pixel_luminance;
-use number::channel::Pixel;
+use luminance::index::luminance_index;
+use luminance::index::stored_at;
+use luminance::index::weight_table;
 use word::body::BODY_START;
-use word::body::pixel_in;
+use word::header::low_half;
 use word::header::pixel_count;
 
-// A tally with one pixel more, which counts where it is lit.
-fn with_pixel(logs: &[u16; 128], tally: Tally, pixel: Pixel) -> Tally
-    requires { ⌜ IsLogTable (now logs) × IsPixel pixel × IsSum (tally .count) (tally .sum) × (tally .count < 2 ^ 40) ⌝ }
-    ensures { λ r. ⌜ r ≡ withPixel tally (luminanceOf pixel) ⌝ }
+// The index of the luminance of a pixel's words.
+fn word_index(reds: &[u64; 48], blues: &[u64; 48], red: u32, green: u32, blue: u32) -> u64
+    requires { ⌜ IsWeightTable 27 (now reds) × IsWeightTable 6 (now blues) × IsCode (low16 red) × IsCode (low16 green) × IsCode (low16 blue) ⌝ }
+    ensures { λ r. ⌜ r ≡ indexOf (luminanceOf (pixelOf (wordChannel red) (wordChannel green) (wordChannel blue))) ⌝ }
 {
-    match pixel_luminance(pixel) {
-        Luminance::Unlit => tally,
-        Luminance::Lit(luminance) => with_luminance(logs, tally, luminance),
+    luminance_index(reds, blues, low_half(red), low_half(green), low_half(blue))
+}
+
+// A tally with one pixel more, which counts where it is lit, by its luminance's index.
+fn with_index(logs: &[u16; 128], tally: Tally, index: u64) -> Tally
+    requires { ⌜ IsLogTable (now logs) × IsIndex index × IsSum (tally .count) (tally .sum) × (tally .count < 2 ^ 40) ⌝ }
+    ensures { λ r. ⌜ r ≡ withPixel tally (luminanceAt index) ⌝ }
+{
+    if index == 0 {
+        return tally;
     }
+    with_luminance(logs, tally, stored_at(index))
 }
 
 // The tally of channel words.
 fn tally_pixels(words: &[u32]) -> Tally
-    requires { ⌜ length (now words) ≤ 2 ^ 40 ⌝ }
+    requires { ⌜ AreCodes (now words) × (length (now words) ≤ 2 ^ 40) ⌝ }
     ensures { λ r. ⌜ r ≡ tallyOf (luminancesOf (wordPixels (now (words .entry)))) ⌝ }
 {
     let logs = log_table();
+    let reds = weight_table(27);
+    let blues = weight_table(6);
     let pixels = words.len() / 3;
     let mut tally = no_luminance();
     let mut p: usize = 0;
     while p < pixels {
         let at = 3 * p;
-        tally = with_pixel(
-            &logs,
-            tally,
-            pixel_in(words[at], words[at + 1], words[at + 2]),
-        );
+        let index = word_index(&reds, &blues, words[at], words[at + 1], words[at + 2]);
+        tally = with_index(&logs, tally, index);
+        p += 1;
+    }
+    tally
+}
+
+// The two bytes of an index, in a pixel's place.
+fn index_levels(index: u64) -> Levels
+    requires { ⌜ index < indexCount ⌝ }
+    ensures { λ r. ⌜ r ≡ indexLevels index ⌝ }
+{
+    Levels {
+        red: (index % 256) as u8,
+        green: (index / 256) as u8,
+        blue: 0,
+    }
+}
+
+// The tally of channel words; the index of each pixel's luminance goes into its place of the output.
+fn index_pixels(words: &[u32], output: &mut [u8]) -> Tally
+    requires { ⌜ AreCodes (now words) × (length (now words) ≤ 2 ^ 40) × (length (now words) ≤ length (now output)) ⌝ }
+    ensures tally { λ r. ⌜ r ≡ tallyOf (luminancesOf (wordPixels (now (words .entry)))) ⌝ }
+    ensures content { λ _. ⌜ now (output .exit) ≡ onto (indexBytes (wordPixels (now (words .entry)))) (now (output .entry)) ⌝ }
+{
+    let logs = log_table();
+    let reds = weight_table(27);
+    let blues = weight_table(6);
+    let pixels = words.len() / 3;
+    let mut tally = no_luminance();
+    let mut p: usize = 0;
+    while p < pixels {
+        let at = 3 * p;
+        let index = word_index(&reds, &blues, words[at], words[at + 1], words[at + 2]);
+        store_levels(index_levels(index), at, output);
+        tally = with_index(&logs, tally, index);
         p += 1;
     }
     tally
@@ -60,4 +109,14 @@ pub fn body_tally(strip: &[u32]) -> Tally
 {
     let end = BODY_START + 3 * pixel_count(strip[0]);
     tally_pixels(&strip[BODY_START..end])
+}
+
+// The tally of an accepted strip, with the indices of its luminances in the front of the output.
+pub fn body_indices(strip: &[u32], output: &mut [u8]) -> Tally
+    requires { ⌜ (checkStrip (now strip) ≡ Verdict.Accepted) × (channelCount (now strip) ≤ length (now output)) ⌝ }
+    ensures tally { λ r. ⌜ r ≡ tallyOf (stripLuminances (now (strip .entry))) ⌝ }
+    ensures content { λ _. ⌜ now (output .exit) ≡ onto (indexBytes (stripPixels (now (strip .entry)))) (now (output .entry)) ⌝ }
+{
+    let end = BODY_START + 3 * pixel_count(strip[0]);
+    index_pixels(&strip[BODY_START..end], output)
 }

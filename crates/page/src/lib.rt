@@ -1,5 +1,6 @@
 // A page tallied and mapped.
 mod body_levels;
 mod body_tally;
+mod levels;
 pub mod map;
 pub mod tally;

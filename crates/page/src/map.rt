@@ -7,7 +7,7 @@ ghost use Rattle.page.specs.Mapping.{stripLevels};
 ghost use Rattle.page.specs.Claims.{MapPromise};
 use crate::body_levels::body_levels;
 use crate::body_levels::clear_levels;
-use crate::body_tally::body_tally;
+use crate::body_tally::body_indices;
 use average::average::Average;
 use average::average::average_of;
 use refusal::Verdict;
@@ -24,7 +24,7 @@ pub fn map(strip: &[u32], output: &mut [u8]) -> Verdict
     let Verdict::Accepted = verdict else {
         return verdict;
     };
-    let tally = body_tally(strip);
+    let tally = body_indices(strip, output);
     let Average::Present(_, average) = average_of(tally.count, tally.sum) else {
         clear_levels(3 * pixel_count(strip[0]), output);
         return Verdict::Accepted;

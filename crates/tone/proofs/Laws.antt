@@ -1,7 +1,8 @@
 -- The laws of levels for the crates above. Assumes nothing.
 
--- steps 4 to 6: the range of a scaled luminance; black gives 0
+-- steps 4 to 6: the range of a scaled luminance and of a display luminance's mantissa; black gives 0
 pub use Rattle.tone.proofs.Scaled.{is-scaled}
+pub use Rattle.tone.proofs.PixelBounds.{display-mantissa}
 pub use Rattle.tone.proofs.LevelSteps.{black-level}
 -- the bound of a factor
 pub use Rattle.tone.proofs.Factors.{factor-most}

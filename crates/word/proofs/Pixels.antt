@@ -74,7 +74,7 @@ module _ (ws : List ℕ) (p : ℕ) (inside : p < length ws / 3) where
   there : p < length (wordPixels ws)
   there = rw (length-word-pixels ws) inside
 
-  pixel-at : getD (wordPixels ws) p (pixelAt ws p) ≡ pixelAt ws p
+  pub pixel-at : getD (wordPixels ws) p (pixelAt ws p) ≡ pixelAt ws p
   pixel-at =
       getD-pixels (map wordChannel ws) p (pixelAt ws p) (rw length-map inside)
       ∙ rw (channel-at ws (3 * p), channel-at ws (3 * p + 1), channel-at ws (3 * p + 2))

@@ -4,6 +4,7 @@ use native.Mathlib.Omega.{arith}
 use denote.Ref.{now}
 use Rattle.strip.proofs.Limits.{Whole, whole-strip}
 use Rattle.strip.proofs.Bodies.{pixels-in, body-lent}
+use Rattle.page.proofs.Indices.{are-codes}
 use Rattle.page.proofs.Strips.{few-pixels, strip-key}
 use Rattle.page.proofs.body_levels.body_levels.Statement.{statement}
 use Rattle.page.proofs.body_levels.body_levels.Tie as tie
@@ -18,7 +19,9 @@ fill-levels-requires c κs =
     let pre = p .before .before .before .before .pre in (
       rw (h .low-half .ensures) (strip-key _ (strip p)),
       pre .1,
+      rw (body-lent _ _ (p .pixel-count .ensures)) (are-codes 2 _ (strip p .channels)),
       omega (arith, c .before .fill-levels-arg .given, p .pixel-count .ensures, pre .2),
+      rw (body-lent _ _ (p .pixel-count .ensures)) (pre .3),
     )
 
 returns : tie.Need-returns

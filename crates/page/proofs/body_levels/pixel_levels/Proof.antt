@@ -1,35 +1,38 @@
 -- `page::body_levels::pixel_levels` meets its contract. Assumes nothing.
 use borrow.Author.Needs.{needs}
-use mathlib.Core.Path.{sym, _∙_}
-use Rattle.luminance.proofs.Laws.{luminance-range}
 use Rattle.page.proofs.body_levels.pixel_levels.Statement.{statement}
 use Rattle.page.proofs.body_levels.pixel_levels.Tie as tie
 
+level-by-requires : tie.Need-level-by-requires
+level-by-requires c κs = let pre = c .before .pre in (pre .0, rw (c .low-half .ensures) (pre .2), pre .1)
+
+level-by-requires-2 : tie.Need-level-by-requires-2
+level-by-requires-2 c κs = let pre = c .before .before .before .pre in (pre .0, rw (c .low-half2 .ensures) (pre .3), pre .1)
+
+level-by-requires-3 : tie.Need-level-by-requires-3
+level-by-requires-3 c κs =
+    let pre = c .before .before .before .before .before .pre in
+    (pre .0, rw (c .low-half3 .ensures) (pre .4), pre .1)
+
 returns : tie.Need-returns
-returns c = simp (sym (c .before .before .pixel-luminance .ensures), c .enum-told .given .1)
-
-display-requires : tie.Need-display-requires
-display-requires c κs =
-    let y = c .before .before .before in
-    let pre = y .before .pre in
-    (pre .0, luminance-range _ (pre .2) _ (sym (y .pixel-luminance .ensures) ∙ c .before .luminance .given .1), pre .1)
-
-returns-2 : tie.Need-returns-2
-returns-2 c =
-    let d = c .before .before .before in
-    let y = d .before .before in
-    simp (
-      sym (y .before .before .pixel-luminance .ensures),
-      y .luminance .given .1,
-      c .level3 .ensures,
-      c .before .level2 .ensures,
-      c .before .before .level .ensures,
-      d .display .ensures,
-    )
+returns c =
+    let b = c .before in
+    let g = b .before in
+    let g′ = g .before in
+    let r = g′ .before in
+    let r′ = r .before in
+    record {
+      lit = λ d y md my e.
+          rw (
+            rw (r′ .low-half .ensures) at (r .level-by .ensures .0 d y md my e),
+            rw (g′ .low-half2 .ensures) at (g .level-by2 .ensures .0 d y md my e),
+            rw (b .low-half3 .ensures) at (c .level-by3 .ensures .0 d y md my e),
+          );
+      unlit = λ e. rw (r .level-by .ensures .1 e, g .level-by2 .ensures .1 e, c .level-by3 .ensures .1 e);
+    }
 
 pub pixel-levels-spec : {M : Type 1} → statement M
 pixel-levels-spec =
     tie.close
     (tie.spec
-    (λ c κs. search needs) (λ c. search needs) (λ c. search needs) returns display-requires (λ c κs. search needs)
-    (λ c κs. search needs) (λ c κs. search needs) returns-2)
+    (λ c κs. search needs) level-by-requires (λ c κs. search needs) level-by-requires-2 (λ c κs. search needs) level-by-requires-3 returns)

@@ -4,12 +4,20 @@ use native.Mathlib.Omega.{arith}
 use denote.Ref.{now}
 use Rattle.strip.proofs.Limits.{Whole, whole-strip}
 use Rattle.strip.proofs.Bodies.{pixels-in, body-lent}
+use Rattle.page.proofs.Indices.{are-codes}
 use Rattle.page.proofs.Strips.{few-pixels}
 use Rattle.page.proofs.body_tally.body_tally.Statement.{statement}
 use Rattle.page.proofs.body_tally.body_tally.Tie as tie
 
 strip : (c : tie.After-pixel-count) → Whole (now (c .before .before .before .args .strip))
 strip c = whole-strip _ (c .before .before .before .pre)
+
+tally-pixels-requires : tie.Need-tally-pixels-requires
+tally-pixels-requires c κs =
+    let p = c .before in (
+      rw (body-lent _ _ (p .pixel-count .ensures)) (are-codes 2 _ (strip p .channels)),
+      omega (arith, c .tally-pixels-arg .given, p .pixel-count .ensures, few-pixels _ (strip p)),
+    )
 
 returns : tie.Need-returns
 returns c =
@@ -25,4 +33,4 @@ body-tally-spec =
     (λ c. omega (arith, c .pixel-count .ensures, few-pixels _ (strip c)))
     (λ c. omega (arith, c .pixel-count .ensures, few-pixels _ (strip c))) (λ c. search needs) (λ c. search needs)
     (λ c. omega (arith, c .pixel-count .ensures, strip c .head .long))
-    (λ c κs. let p = c .before in omega (arith, c .tally-pixels-arg .given, p .pixel-count .ensures, few-pixels _ (strip p))) returns)
+    tally-pixels-requires returns)

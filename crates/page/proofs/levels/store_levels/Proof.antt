@@ -1,9 +1,9 @@
--- `page::body_levels::store_levels` meets its contract. Assumes nothing.
+-- `page::levels::store_levels` meets its contract. Assumes nothing.
 use borrow.Author.Needs.{needs}
 use native.Mathlib.Omega.{arith}
 use lib.ListN.{length-set}
-use Rattle.page.proofs.body_levels.store_levels.Statement.{statement}
-use Rattle.page.proofs.body_levels.store_levels.Tie as tie
+use Rattle.page.proofs.levels.store_levels.Statement.{statement}
+use Rattle.page.proofs.levels.store_levels.Tie as tie
 
 pub store-levels-spec : {M : Type 1} → statement M
 store-levels-spec =

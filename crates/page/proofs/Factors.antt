@@ -1,0 +1,122 @@
+-- The factors of a page's luminances, and the levels by them. Assumes nothing.
+use Prim.Native.Nat.{ℕ, _*_, _%_, _^_, _≤_, _<_}
+use mathlib.Core.Path.{_≡_, refl, sym, subst, _∙_}
+use mathlib.Core.Logic.{_⊎_, inl, inr, ⊎-elim}
+use mathlib.Core.List.{List}
+use native.Mathlib.Nat.{eq-zero-or-pos}
+use native.Mathlib.Decide.{ℕ-discrete}
+use native.Mathlib.Omega.{arith}
+use lib.Dec.{lit<}
+use borrow.Author.Tests.{ne-eqb}
+use lib.ListN.{length, getD, set, replicate, length-set, length-replicate, getD-replicate}
+use lib.Seq.{getD-set-same, getD-set-other}
+use Rattle.number.proofs.Laws.{IsMantissa}
+use Rattle.number.specs.declared.channel.Pixel.{Pixel}
+use Rattle.number.specs.declared.ratio.Stored.{Stored}
+use Rattle.luminance.specs.declared.pixel.Luminance.{Luminance}
+use Rattle.luminance.specs.declared.pixel.Luminance.the-variants.{Unlit, Lit}
+use Rattle.luminance.specs.Codes.{indexOf, indexCount, storedAt}
+use Rattle.luminance.specs.Pixels.{IsPixel, luminanceOf, IsLuminance}
+use Rattle.average.specs.Averages.{IsStoredAverage}
+use Rattle.tone.specs.Factors.{factorOf}
+use Rattle.tone.specs.Levels.{IsKey, reinhard, scaledOf, displayOf}
+use Rattle.page.specs.declared.levels.Levels.{Levels}
+use Rattle.page.specs.Mapping.{levelsFrom, levelsOf}
+use Rattle.page.specs.Indices.{luminanceAt, InRange, IsIndex, pixelIndex}
+use Rattle.page.specs.FactorTables.{unlitFactor, factorUnder, IsFactorTable, LevelsBy}
+use Rattle.luminance.proofs.Laws.{luminance-range, index-stored, index-range}
+use Rattle.tone.proofs.Laws.{factor-most, display-mantissa}
+use Rattle.page.proofs.Indices.{luminance-at, is-index}
+
+-- ---- index 0, and any other
+
+pub at-unlit : {i : ℕ} → i ≡ 0 → luminanceAt i ≡ Unlit
+unfolding luminanceAt
+at-unlit e = rw e
+
+module _ {i : ℕ} (lit : i ≡ 0 → ⊥) where
+  pub at-lit : luminanceAt i ≡ Lit (storedAt i)
+  unfolding luminanceAt
+  at-lit = rw (ne-eqb i 0 lit)
+
+  pub is-luminance : IsIndex i → IsLuminance (storedAt i)
+  is-luminance h = subst InRange at-lit (h .luminance)
+
+  pub factor-lit : (K : ℕ) (a : Stored) → factorUnder K a i ≡ factorOf (displayOf reinhard (scaledOf K (storedAt i) a)) (storedAt i)
+  unfolding factorUnder
+  factor-lit K a = rw (ne-eqb i 0 lit)
+
+-- ---- the table
+
+module _ (K : ℕ) (a : Stored) where
+  factor-unlit : factorUnder K a 0 ≡ unlitFactor
+  unfolding factorUnder
+  factor-unlit = refl
+
+  -- the factor of any index is small enough for its levels
+  pub factor-range : IsKey K → IsStoredAverage a → (i : ℕ) → IsIndex i → factorUnder K a i < 374 * 2 ^ 40
+  factor-range key average i h = ⊎-elim none some (eq-zero-or-pos i)
+    where
+      none : i ≡ 0 → factorUnder K a i < 374 * 2 ^ 40
+      none e = rw (e, factor-unlit) (lit< tt)
+
+      some : 0 < i → factorUnder K a i < 374 * 2 ^ 40
+      some lit =
+          let e : i ≡ 0 → ⊥ = λ z. omega arith in
+          let y = is-luminance e h in
+          rw (factor-lit e K a) (factor-most _ _ (display-mantissa K _ a key y average) (y .mantissa))
+
+  module _ (factors : List ℕ) (table : IsFactorTable K a factors) (i : ℕ) (inside : i < indexCount) where
+    -- an entry that is not 0 is right
+    pub kept : (getD factors i 0 ≡ 0 → ⊥) → getD factors i 0 ≡ factorUnder K a i
+    kept some = ⊎-elim (λ e. absurd (some e)) (λ e. e) (table .entry i inside)
+
+    -- an entry that is 0 is not that of the unlit pixels
+    pub not-unlit : getD factors i 0 ≡ 0 → i ≡ 0 → ⊥
+    not-unlit none e = let z : _≡_ {A = ℕ} 0 (2 ^ 40) = sym none ∙ rw e (table .unlit) in omega arith
+
+    -- a right entry more
+    pub with-entry : {v : ℕ} → (i ≡ 0 → ⊥) → v ≡ factorUnder K a i → IsFactorTable K a (set factors i v)
+    with-entry {v} lit e =
+        record {
+          long = rw length-set (table .long);
+          unlit = getD-set-other factors i 0 v 0 (λ z. lit (sym z)) ∙ table .unlit;
+          entry = λ j h. go j h (ℕ-discrete j i);
+        }
+      where
+        go : (j : ℕ) → j < indexCount → Dec (j ≡ i) → (getD (set factors i v) j 0 ≡ 0) ⊎ (getD (set factors i v) j 0 ≡ factorUnder K a j)
+        go j h (yes q) = rw q (inr (getD-set-same factors i v 0 (rw (table .long) inside) ∙ e))
+        go j h (no q) = rw (getD-set-other factors i j v 0 q) (table .entry j h)
+
+-- at first there are none
+pub no-factors : (n : ℕ) → n ≡ indexCount → (K : ℕ) (a : Stored) → IsFactorTable K a (set (replicate n 0) 0 unlitFactor)
+no-factors n long K a =
+    record {
+      long = rw (length-set, length-replicate) long;
+      unlit = first;
+      entry = λ i h. ⊎-elim (λ e. inr (rw e (first ∙ sym (factor-unlit K a)))) (λ e. inl (behind i h e)) (eq-zero-or-pos i);
+    }
+  where
+    first : getD (set (replicate n 0) 0 unlitFactor) 0 0 ≡ unlitFactor
+    first = getD-set-same (replicate n 0) 0 unlitFactor 0 (rw length-replicate (omega arith))
+
+    behind : (i : ℕ) → i < indexCount → 0 < i → getD (set (replicate n 0) 0 unlitFactor) i 0 ≡ 0
+    behind i h some = getD-set-other (replicate n 0) 0 i unlitFactor 0 (λ e. omega arith) ∙ getD-replicate n i 0 0 (omega arith)
+
+-- ---- the levels of a pixel by the factor of its luminance
+
+module _ (K : ℕ) (a : Stored) (key : IsKey K) (average : IsStoredAverage a) (p : Pixel) (valid : IsPixel p) where
+  pub levels-by : {factor : ℕ} {l : Levels} → factor ≡ factorUnder K a (pixelIndex p) → LevelsBy factor p l → l ≡ levelsOf K a p
+  levels-by {factor} {l} e by = go (luminanceOf p) refl
+    where
+      go : (y : Luminance) → luminanceOf p ≡ y → l ≡ levelsFrom y K a p
+      go Unlit told =
+          let f : factor ≡ unlitFactor = e ∙ rw told (factor-unlit K a) in
+          by .unlit (rw f refl)
+      go (Lit y) told =
+          let range = luminance-range p valid y told in
+          let lit : indexOf (Lit y) ≡ 0 → ⊥ = λ z. omega (arith, index-range y range .0) in
+          let at : (z : Stored) → z ≡ y → factorOf (displayOf reinhard (scaledOf K z a)) z ≡ factorOf (displayOf reinhard (scaledOf K y a)) y =
+          λ z q. rw q in
+          let f : factor ≡ factorOf (displayOf reinhard (scaledOf K y a)) y = e ∙ rw told (factor-lit lit K a ∙ at _ (index-stored y range)) in
+          by .lit (displayOf reinhard (scaledOf K y a)) y (display-mantissa K y a key range average) (range .mantissa) f

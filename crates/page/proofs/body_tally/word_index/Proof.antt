@@ -1,0 +1,26 @@
+-- `page::body_tally::word_index` meets its contract. Assumes nothing.
+use borrow.Author.Needs.{needs}
+use Rattle.page.proofs.body_tally.word_index.Statement.{statement}
+use Rattle.page.proofs.body_tally.word_index.Tie as tie
+
+luminance-index-requires : tie.Need-luminance-index-requires
+luminance-index-requires c κs =
+    let g = c .before in
+    let r = g .before in
+    let pre = r .before .pre in (
+      pre .0,
+      pre .1,
+      rw (r .low-half .ensures) (pre .2),
+      rw (g .low-half2 .ensures) (pre .3),
+      rw (c .low-half3 .ensures) (pre .4),
+    )
+
+returns : tie.Need-returns
+returns c =
+    let b = c .before in
+    let g = b .before in
+    rw (g .before .low-half .ensures, g .low-half2 .ensures, b .low-half3 .ensures) at (c .luminance-index .ensures)
+
+pub word-index-spec : {M : Type 1} → statement M
+word-index-spec =
+    tie.close (tie.spec (λ c κs. search needs) (λ c κs. search needs) (λ c κs. search needs) luminance-index-requires returns)

@@ -1,0 +1,36 @@
+-- The factors of a page's luminances, worked out as they appear. Assumes nothing.
+use Prim.Native.Nat.{ℕ, _%_, _^_, _<_}
+use mathlib.Core.Path.{_≡_}
+use mathlib.Core.Logic.{_⊎_}
+use mathlib.Core.Bool.{cond}
+use mathlib.Core.List.{List}
+use lib.Dec.{eqb}
+use lib.ListN.{length, getD}
+use Rattle.number.proofs.Laws.{IsMantissa}
+use Rattle.number.specs.declared.channel.Pixel.{Pixel}
+use Rattle.number.specs.declared.ratio.Stored.{Stored}
+use Rattle.luminance.specs.Codes.{indexCount, storedAt}
+use Rattle.tone.specs.Factors.{factorOf}
+use Rattle.tone.specs.Levels.{reinhard, scaledOf, displayOf, levelOf}
+use Rattle.page.specs.declared.levels.Levels.{Levels}
+use Rattle.page.specs.Mapping.{byChannel}
+
+-- what stands for an unlit pixel: not 0, and every level is 0
+abbrev pub unlitFactor : ℕ
+unlitFactor = 2 ^ 40
+
+-- the factor of the luminance at an index, under a key and a stored average
+unfoldable pub factorUnder : (K : ℕ) (average : Stored) (i : ℕ) → ℕ
+factorUnder K a i = cond (eqb i 0) unlitFactor (factorOf (displayOf reinhard (scaledOf K (storedAt i) a)) (storedAt i))
+
+-- each entry is 0, for not yet, or right
+pub record IsFactorTable (K : ℕ) (average : Stored) (factors : List ℕ) : Type 0 where
+  pub long : length factors ≡ indexCount
+  pub unlit : getD factors 0 0 ≡ unlitFactor
+  pub entry : (i : ℕ) → i < indexCount → (getD factors i 0 ≡ 0) ⊎ (getD factors i 0 ≡ factorUnder K average i)
+
+-- the levels of a pixel by a factor
+pub record LevelsBy (factor : ℕ) (p : Pixel) (levels : Levels) : Type 0 where
+  pub lit : (d y : Stored) → IsMantissa (d .mantissa) → IsMantissa (y .mantissa) → factor ≡ factorOf d y
+      → levels ≡ byChannel (λ c. levelOf d c y) p
+  pub unlit : factor % 2 ^ 40 ≡ 0 → levels ≡ byChannel (λ c. 0) p
