@@ -1,5 +1,5 @@
 -- A strip and the header and channels that it is written from determine each other. Assumes nothing.
-use Prim.Native.Nat.{ℕ, suc, _+_, _*_, _^_, _<_, _≤_}
+use Prim.Native.Nat.{ℕ, suc, _+_, _*_, _<_, _≤_}
 use mathlib.Core.Path.{_≡_, refl, sym, _∙_}
 use mathlib.Core.List.{List, [], _∷_, _++_}
 use mathlib.Core.Bool.{true}
@@ -8,11 +8,10 @@ use borrow.Author.Tests.{eq-eqb, le-leb}
 use lib.ListN.{length, getD, take, drop, length-map, length-append, length-drop}
 use lib.Seq.{take-at, getD-at, take-suc, take-all, length-take-le}
 use Rattle.number.specs.declared.channel.Channel.{Channel}
-use Rattle.number.specs.declared.channel.Channel.the-variants.{Black, Lit}
 use Rattle.number.specs.declared.channel.Decoded.{Decoded}
 use Rattle.number.specs.declared.channel.Decoded.the-variants.{Holds}
 use Rattle.number.specs.Channels.{IsChannel, codeOf, channelIn}
-use Rattle.number.proofs.Laws.{Every, code-channel}
+use Rattle.number.proofs.Laws.{Every}
 use Rattle.refusal.specs.declared.Verdict.{Verdict}
 use Rattle.refusal.specs.declared.Verdict.the-variants.{Accepted}
 use Rattle.refusal.proofs.Laws.{and-passed, and-met, require-met}
@@ -36,6 +35,7 @@ use Rattle.strip.specs.Reading.{stripChannels, stripPixels}
 use Rattle.word.proofs.Walks.{length-placed, length-words}
 use Rattle.word.proofs.Pixels.{length-pixels}
 use Rattle.word.proofs.Limits.{size-limits, key-limits}
+use Rattle.strip.proofs.Bodies.{word-read}
 use Rattle.strip.proofs.Limits.{Whole}
 use Rattle.word.proofs.Decoding.{holds, is-word}
 
@@ -68,17 +68,6 @@ module _
       rw (one k c cs) (record { accepted = rw e (and-met refl (q .accepted)); channels = rw (e, q .channels) })
 
 -- ---- the words of channels are read as these channels, and accepted words are the words of their channels
-
-code-small : (c : Channel) → IsChannel c → codeOf c < 2 ^ 16
-code-small Black t = omega arith
-code-small (Lit E M) t = omega (arith, t .most, t .mantissa .most)
-
-word-read : (k : ℕ) (c : Channel) → IsChannel c → decodeWord k (channelWord k (codeOf c)) ≡ Holds c
-unfolding decodeWord
-word-read k c t =
-    let small = code-small c t in
-    let low : low16 (channelWord k (codeOf c)) ≡ codeOf c = omega arith in
-    simp (low, eq-eqb (channelWord k (codeOf c)) (channelWord k (codeOf c)) refl) (code-channel c t)
 
 words-read : (start k : ℕ) (cs : List Channel) → Every IsChannel cs → ReadAs decodeWord start k (bodyWords k cs) cs
 words-read = row-read decodeWord (λ k c. channelWord k (codeOf c)) bodyWords (λ k. refl) (λ k c cs. refl) word-read

@@ -1,3 +1,4 @@
 pub mod Checks
+pub mod LitWords
 pub mod Reading
 pub mod Output

@@ -1,0 +1,40 @@
+-- `strip::check::first_fault` meets its contract: at each turn the verdict on the words that are left is that on all. Assumes nothing.
+use borrow.Author.Needs.{needs}
+use Prim.Native.Nat.{_-_}
+use mathlib.Core.Path.{_≡_, refl}
+use lib.ListN.{length}
+use Rattle.word.specs.Placing.{placed, firstRefusal}
+use Rattle.word.specs.Fields.{decodeWord}
+use Rattle.word.proofs.Walks.{checking, checking-all, checking-next, checking-refused, checking-done}
+use Rattle.strip.proofs.check.first_fault.Statement.{statement}
+use Rattle.strip.proofs.check.first_fault.Tie as tie
+
+abbrev Inv-loop : tie.InvT-loop
+Inv-loop words k₀ k = checking decodeWord 2 words k ≡ firstRefusal (placed decodeWord 2 0 words)
+
+abbrev μ-loop : tie.MeasureT-loop
+μ-loop words k₀ k = length words - k
+
+returns : tie.Need-returns Inv-loop μ-loop
+returns c =
+    let b = c .before .before .before in
+    let t = b .before .before in
+    checking-refused _ _ _ _ (t .before .loop .inv) (t .loop-test .taken) (b .decode-word .ensures) refl (c .verdict-at .ensures)
+    (c .before .enum-told2 .given .1)
+
+loop-again : tie.Need-loop-again Inv-loop μ-loop
+loop-again c =
+    let b = c .before .before in
+    let t = b .before .before in
+    checking-next _ _ _ _ (t .before .loop .inv) (t .loop-test .taken) (b .decode-word .ensures) (c .enum-told .given .1)
+
+returns-2 : tie.Need-returns-2 Inv-loop μ-loop
+returns-2 c = checking-done _ _ _ _ (c .before .loop .inv) (c .loop-test .left)
+
+pub first-fault-spec : {M : Type 1} → statement M
+first-fault-spec =
+    tie.close
+    (tie.spec
+    Inv-loop μ-loop (λ c. checking-all _ _ _) (λ c. search needs) (λ c. search needs) (λ c κs. search needs)
+    (λ c. search needs) (λ c. search needs) (λ c. search needs) (λ c κs. search needs) returns (λ c. search needs) (λ c. search needs)
+    loop-again returns-2)
