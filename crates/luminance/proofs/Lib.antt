@@ -6,3 +6,5 @@ pub mod Storables
 pub mod Sticky
 pub mod CutSums
 pub mod Luminances
+-- the index of a luminance
+pub mod Indices

@@ -41,6 +41,10 @@ by-tests : (p : Pixel) → luminanceOf p ≡ told p (isBlack (p .red)) (isBlack 
 unfolding luminanceOf
 by-tests p = refl
 
+-- one lit channel is enough
+pub red-lit : (p : Pixel) → isBlack (p .red) ≡ false → luminanceOf p ≡ Luminance.Lit (storedOf (exactLuminance p))
+red-lit p h = by-tests p ∙ rw h
+
 -- by numbers that are 0 for black channels only
 module _ (p : Pixel) (e e′ e″ : ℕ) (red : isBlack (p .red) ≡ eqb e 0) (green : isBlack (p .green) ≡ eqb e′ 0)
     (blue : isBlack (p .blue) ≡ eqb e″ 0) where

@@ -1,7 +1,7 @@
 -- A pixel by the 16-bit forms of its channels, and its luminance as a number for tables. Assumes nothing.
 use mathlib.Core.Path.{_≡_}
 use mathlib.Core.List.{List}
-use Prim.Native.Nat.{ℕ, _+_, _-_, _*_, _/_, _%_, _^_, _<_}
+use Prim.Native.Nat.{ℕ, _+_, _-_, _*_, _/_, _%_, _^_, _≤_, _<_}
 use lib.ListN.{getD}
 use Rattle.number.proofs.Laws.{codeChannel}
 use Rattle.number.specs.declared.channel.Pixel.{Pixel}
@@ -29,3 +29,11 @@ storedAt i = record { exponent = i / 128 + 66; mantissa = i % 128 + 128 }
 -- weight · 2^i, for i up to 47
 pub record IsWeightTable (weight : ℕ) (entries : List ℕ) : Type 0 where
   pub entry : (i : ℕ) → i < 48 → getD entries i 0 ≡ weight * 2 ^ i
+
+-- the first thirteen binary digits of a number, with so many digits behind them
+pub record IsCut (number digits shift : ℕ) : Type 0 where
+  pub low : digits * 2 ^ shift ≤ number
+  pub high : number < (digits + 1) * 2 ^ shift
+  pub least : 4096 ≤ digits
+  pub most : digits < 8192
+  pub within : shift ≤ 50
