@@ -61,8 +61,8 @@ module _ {s t k : ℕ} (c : IsCut s t k) where
       (shut (λ (u : ℕ). Stores (s * 2 ^ e over 100 * u) E M) (powers-into e 137 (rescale m (omega arith))))
       (record { cross = refl }) (mul-pos {m = 100} (lit< tt) unit-pos)
 
-  -- The digits 6400 are left out: a hundred times a power of two has them, and so have numbers of the next exponent.
-  pub cut-index : (e d : ℕ) → d + 69 ≡ k + e → (t ≡ 6400 → ⊥)
+  -- The digits 6400 are left out: a hundred times a power of two has them, and so have numbers just above.
+  cut-index : (e d : ℕ) → d + 69 ≡ k + e → (t ≡ 6400 → ⊥)
       → 128 * d + min (t / 25 - 128) (t / 25 / 2) ≡ indexOf (Luminance.Lit (storedOf (s * 2 ^ e over 100 * unit)))
   cut-index e d h other = by (decLe t 6400)
     where

@@ -65,8 +65,8 @@ fn cut(sum: u64) -> CutSum
     }
 }
 
-// The index of a hundredth of a sum by its first digits, in units of 2^-24 at the exponent of green. They are not 6400: whether the sum is
-// a hundred times a power of two, or above that, those digits do not tell.
+// The index of a hundredth of a sum by its first digits, where the sum counts 2^-24 at the exponent of green. The digits 6400 do not tell
+// it: a hundred times a power of two has them, and so have numbers just above, which have the next index.
 fn cut_index(digits: u32, shift: u64, green: u64) -> u64
     requires { ⌜ (4096 ≤ digits) × (digits < 8192) × (shift ≤ 50) × (green ≤ 255) × (93 ≤ shift + green) ⌝ }
     ensures { λ r. ⌜ r ≡ 128 * (shift + green - 93) + min (digits / 25 - 128) (digits / 25 / 2) ⌝ }
