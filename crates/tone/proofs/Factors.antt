@@ -129,7 +129,7 @@ module _ (A B C R : ℕ) (a : IsValue A) (b : IsValue B) (c : IsValue C) (r : Is
         at-power (power-within i h (omega arith))
         ∙ within-by (2 ^ (i - 374)) (2 ^ (down - up)) (pow-pos (i - 374)) (pow-pos (down - up))
         (sym (pow-add 2 (i - 374) (down - up)) ∙ ap (λ (z : ℕ). 2 ^ z) places)
-        ∙ lowered (255 * A * C) up B down (omega arith) _ (omega arith) refl
+        ∙ ap (min 255) (lowered (255 * A * C) up B down (omega arith) (omega arith))
 
     exact-by : (i < 374 → up + 19 ≤ down) → (385 ≤ i → down ≤ up + 7) → (374 ≤ i → i < 385 → down + i ≡ up + 392) → Exact
     exact-by low high within = go (decLt i 374) (decLt i 385)

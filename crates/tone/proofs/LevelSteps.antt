@@ -1,7 +1,7 @@
--- Step 6: levels of num · 2^up / (den · 2^down), and the level of a channel as one. Assumes nothing.
-use mathlib.Core.Path.{_≡_, sym, ap, _∙_, subst}
+-- Step 6: levels of fractions, and the level of a channel as that of num · 2^up / (den · 2^down). Assumes nothing.
+use mathlib.Core.Path.{_≡_, sym, ap, _∙_}
 use Prim.Native.Nat.{ℕ, _+_, _-_, _*_, _^_, _≤_, _<_, min}
-use native.Mathlib.Nat.{div-eq-of-lt, le-div-iff-mul-le, le-of-eq, le-trans, min-eq-left, mul-le-mul-right, mul-pos}
+use native.Mathlib.Nat.{div-eq-of-lt, le-div-iff-mul-le, le-of-eq, le-trans, min-eq-left, mul-pos}
 use native.Mathlib.Omega.{arith}
 use lib.Pow.{pow-add, pow-mono, pow-pos}
 use Rattle.number.proofs.Laws.{Frac, _over_, unit, unit-pos, unit-power}
@@ -23,43 +23,15 @@ full-level x pos h = sym (min-eq-left (le-div-iff-mul-le (mul-pos {m = 2} (omega
 pub dark-level : (x : Frac) → 2 * x .num < x .den → 0 ≡ min 255 (nearestWhole x)
 dark-level x h = ap (min 255) (sym (div-eq-of-lt (omega arith)))
 
-module _ (num up den down : ℕ) (d : 0 < den) where
-  abbrev x : Frac
-  x = num * 2 ^ up over den * 2 ^ down
-
-  pos : 0 < x .den
-  pos = mul-pos d (pow-pos down)
-
-  pub full : 255 ≤ num → den ≤ 511 → down + 9 ≤ up → 255 ≡ min 255 (nearestWhole x)
-  full n e h = full-level x pos (most (2 ^ up) (2 ^ down) (apart down up 9 h))
-    where
-      most : (p q : ℕ) → q * 2 ^ 9 ≤ p → 255 * (den * q) ≤ num * p
-      most p q h = omega (arith, mul-le-mul-right q e, mul-le-mul-right p n)
-
-  pub dark : num < 2 ^ 26 → up + 27 ≤ down → 0 ≡ min 255 (nearestWhole x)
-  dark n h = dark-level x (least (2 ^ up) (2 ^ down) (pow-pos up) (apart up down 27 h))
-    where
-      least : (p q : ℕ) → 0 < p → p * 2 ^ 27 ≤ q → 2 * (num * p) < den * q
-      least p q o h = omega (arith, mul-le-mul-right q d, mul-le-mul-right p n)
-
-  pub raised : (s : ℕ) → down ≤ up → s ≡ num * 2 ^ (up - down) → min 255 (nearestWhole (s over den)) ≡ min 255 (nearestWhole x)
-  raised s h q =
-      ap (min 255) (nearest-equal (s over den) x d pos
-      (record { cross = ap (λ (z : ℕ). z * (den * 2 ^ down)) q ∙ regroup (2 ^ (up - down)) (2 ^ down) (2 ^ up) (power-difference up down h) }))
-    where
-      regroup : (p q r : ℕ) → p * q ≡ r → num * p * (den * q) ≡ num * r * den
-      regroup p q r f = omega (arith, ap (λ (z : ℕ). num * den * z) f)
-
-  pub lowered : (s : ℕ) → up ≤ down → s ≡ den * 2 ^ (down - up) → min 255 (nearestWhole (num over s)) ≡ min 255 (nearestWhole x)
-  lowered s h q =
-      ap (min 255) (nearest-equal (num over s) x some pos
-      (record { cross = regroup (2 ^ (down - up)) (2 ^ up) (2 ^ down) (power-difference down up h) ∙ sym (ap (λ (z : ℕ). num * 2 ^ up * z) q) }))
-    where
-      some : 0 < s
-      some = subst (λ (z : ℕ). 0 < z) (sym q) (mul-pos d (pow-pos (down - up)))
-
-      regroup : (p q r : ℕ) → p * q ≡ r → num * (den * r) ≡ num * q * (den * p)
-      regroup p q r f = omega (arith, ap (λ (z : ℕ). num * den * z) f)
+-- the smaller power goes out of a fraction
+pub lowered : (num up den down : ℕ) → 0 < den → up ≤ down
+    → nearestWhole (num over den * 2 ^ (down - up)) ≡ nearestWhole (num * 2 ^ up over den * 2 ^ down)
+lowered num up den down d h =
+    nearest-equal _ _ (mul-pos d (pow-pos (down - up))) (mul-pos d (pow-pos down))
+    (record { cross = regroup (2 ^ (down - up)) (2 ^ up) (2 ^ down) (power-difference down up h) })
+  where
+    regroup : (p q r : ℕ) → p * q ≡ r → num * (den * r) ≡ num * q * (den * p)
+    regroup p q r f = omega (arith, ap (λ (z : ℕ). num * den * z) f)
 
 -- of black, and of a lit channel
 divisor-pos : (y : Stored) → 0 < unit * unit * ((2 * y .mantissa + 1) * 2 ^ y .exponent)

@@ -1,12 +1,11 @@
-// Steps 4 to 6: scaled luminance, display luminance, level.
+// Steps 4 and 5: scaled luminance and display luminance.
 ghost use mathlib.Core.Path.{_≡_};
-ghost use Prim.Native.Nat.{_*_, _^_, _≤_, _<_, min};
+ghost use Prim.Native.Nat.{_*_, _^_, _≤_, _<_};
 ghost use Rattle.number.proofs.Laws.{_over_, unit, storedOf};
 ghost use Rattle.average.specs.Averages.{IsStoredAverage};
-ghost use Rattle.tone.specs.Levels.{IsKey, scaledOf, IsScaled, reinhard, displayOf, levelOf, nearestWhole};
+ghost use Rattle.tone.specs.Levels.{IsKey, scaledOf, IsScaled, reinhard, displayOf};
 ghost use Rattle.luminance.specs.Pixels.{IsLuminance};
 use luminance::ratio::stored_ratio;
-use number::channel::Channel;
 use number::ratio::Stored;
 
 // Step 4: K/1000 times luminance over average.
@@ -73,45 +72,4 @@ pub fn display(key: u64, luminance: Stored, average: Stored) -> Stored
     ensures { λ r. ⌜ r ≡ displayOf reinhard (scaledOf key luminance average) ⌝ }
 {
     display_luminance(scaled_luminance(key, luminance, average))
-}
-
-// num / den to the nearest whole number, halves up, at most 255.
-fn nearest_level(num: u64, den: u64) -> u8
-    requires { ⌜ (num < 2 ^ 62) × (0 < den) × (den < 2 ^ 62) ⌝ }
-    ensures { λ r. ⌜ r ≡ min 255 (nearestWhole (num over den)) ⌝ }
-{
-    let level = (2 * num + den) / (2 * den);
-    if level < 255 { level as u8 } else { 255 }
-}
-
-// num * 2^up / (den * 2^down), likewise. Nine places are enough to reach 255, and 27 to reach 0.
-fn scaled_level(num: u64, up: u64, den: u64, down: u64) -> u8
-    requires { ⌜ (255 ≤ num) × (num < 2 ^ 26) × (1 ≤ den) × (den ≤ 511) × (up ≤ 510) × (down ≤ 392) ⌝ }
-    ensures { λ r. ⌜ r ≡ min 255 (nearestWhole (num * 2 ^ up over den * 2 ^ down)) ⌝ }
-{
-    if down + 9 <= up {
-        return 255;
-    }
-    if up + 27 <= down {
-        return 0;
-    }
-    if down <= up {
-        return nearest_level(shift_left(num, up - down), den);
-    }
-    nearest_level(num, shift_left(den, down - up))
-}
-
-// Step 6: the level of a channel, from display luminance and luminance.
-pub fn level(display: Stored, channel: Channel, luminance: Stored) -> u8
-    ensures { λ r. ⌜ r ≡ levelOf display channel luminance ⌝ }
-{
-    match channel {
-        Channel::Black => 0,
-        Channel::Lit(exponent, mantissa) => scaled_level(
-            255 * (2 * (display.mantissa as u64) + 1) * (2 * (mantissa as u64) + 1),
-            display.exponent as u64 + exponent as u64,
-            2 * (luminance.mantissa as u64) + 1,
-            luminance.exponent as u64 + ONE,
-        ),
-    }
 }
