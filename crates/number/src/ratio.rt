@@ -65,8 +65,8 @@ fn next_digit(digits: u64, rest: u64, den: u64) -> Quotient
     }
 }
 
-// The mantissa of (den + rest) / (2 * den): a leading 1, and seven digits of rest / den.
-fn mantissa(rest: u64, den: u64) -> u8
+// The mantissa of (den + rest) / (2 * den) digit by digit: a leading 1, and seven digits of rest / den.
+fn mantissa_by_digits(rest: u64, den: u64) -> u8
     requires { ⌜ (0 < rest) × (rest < den) ⌝ }
     ensures { λ r. ⌜ Normalised (den + rest) (2 * den) r ⌝ }
 {
@@ -80,6 +80,26 @@ fn mantissa(rest: u64, den: u64) -> u8
         i += 1;
     }
     q.digits as u8
+}
+
+// The mantissa of (128 * part + rest) / (256 * part), by one division: the leading 1 is worth 128, and the seven digits are rest / part.
+fn mantissa_by_division(rest: u64, part: u64) -> u8
+    requires { ⌜ (0 < rest) × (rest < 128 * part) ⌝ }
+    ensures { λ r. ⌜ Normalised (128 * part + rest) (256 * part) r ⌝ }
+{
+    (128 + rest / part) as u8
+}
+
+// The mantissa of (den + rest) / (2 * den). A den below 2^57 that is shifted to bit 63 is a multiple of 128.
+fn mantissa(rest: u64, den: u64) -> u8
+    requires { ⌜ (0 < rest) × (rest < den) ⌝ }
+    ensures { λ r. ⌜ Normalised (den + rest) (2 * den) r ⌝ }
+{
+    if den % 128 == 0 {
+        mantissa_by_division(rest, den / 128)
+    } else {
+        mantissa_by_digits(rest, den)
+    }
 }
 
 // num / den, scaled to above 1/2 and at most 1.
