@@ -37,6 +37,7 @@ pub check-half-spec : {M : Type 1} → statement M
 check-half-spec =
     tie.close
     (tie.spec
-    Inv-loop μ-loop (λ c κs. search needs) (λ c. sym (c .before .all-finite .ensures (c .if1 .taken))) (λ c. checking-all _ _ _) (λ c. search needs) (λ c. search needs) (λ c κs. search needs)
+    Inv-loop μ-loop (λ c κs. search needs) (λ c. sym (c .before .all-finite .ensures (c .if1 .taken))) (λ c. checking-all _ _ _)
+    (λ c. search needs) (λ c. search needs) (λ c κs. search needs)
     (λ c. search needs) (λ c. search needs) (λ c κs. search needs) returns-2 (λ c. search needs) (λ c. search needs)
     loop-again returns-3)

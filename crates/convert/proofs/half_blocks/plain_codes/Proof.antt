@@ -22,7 +22,8 @@ loop-again : tie.Need-loop-again Inv-loop μ-loop
 loop-again c =
     let t = c .before .before in
     let a = t .before .before .before .before .args in
-    filled-next (λ k. halfCode (getD (now (a .source)) (a .start + k) 0)) (t .before .loop .codes) _ (t .before .loop .inv) (t .loop-test .taken) (c .plain-half-code .ensures)
+    filled-next (λ k. halfCode (getD (now (a .source)) (a .start + k) 0)) (t .before .loop .codes) _
+    (t .before .loop .inv) (t .loop-test .taken) (c .plain-half-code .ensures)
 
 returns : tie.Need-returns Inv-loop μ-loop
 returns c = record { long = c .before .loop .inv .0; code = λ k h. c .before .loop .inv .1 k (omega arith) }
@@ -32,4 +33,5 @@ plain-codes-spec =
     tie.close
     (tie.spec
     Inv-loop μ-loop (λ c. (search needs, λ k h. absurd (omega arith))) (λ c. search needs) (λ c. search needs) (λ c. search needs)
-    plain-half-code-requires (λ c. search needs) (λ c. search needs) (λ c. search needs) (λ c. search needs) loop-again (λ c. search needs) returns)
+    plain-half-code-requires (λ c. search needs) (λ c. search needs) (λ c. search needs) (λ c. search needs)
+    loop-again (λ c. search needs) returns)

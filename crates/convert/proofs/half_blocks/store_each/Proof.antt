@@ -20,7 +20,8 @@ loop-again : tie.Need-loop-again Inv-loop μ-loop
 loop-again c =
     let t = c .before .before .before in
     let l = t .before .loop in
-    let n = halves-next _ _ (l .output) (l .inv .1, l .inv .2) (omega arith) (rw (c .before .half-code .ensures) at (c .channel-word .ensures)) in
+    let word = rw (c .before .half-code .ensures) at (c .channel-word .ensures) in
+    let n = halves-next _ _ (l .output) (l .inv .1, l .inv .2) (omega arith) word in
     (omega arith, n .0, n .1)
 
 returns : tie.Need-returns Inv-loop μ-loop
@@ -34,4 +35,5 @@ store-each-spec =
     tie.close
     (tie.spec
     Inv-loop μ-loop (λ c. (search needs, refl, refl)) (λ c. search needs) (λ c. search needs) (λ c κs. search needs) (λ c κs. search needs)
-    (λ c. search needs) (λ c. search needs) (λ c. search needs) (λ c. search needs) (λ c. search needs) loop-again (λ c. search needs) returns)
+    (λ c. search needs) (λ c. search needs) (λ c. search needs) (λ c. search needs) (λ c. search needs)
+    loop-again (λ c. search needs) returns)

@@ -16,9 +16,6 @@ Inv-loop kinds source start output₀ codes j₀ output j =
 abbrev μ-loop : tie.MeasureT-loop
 μ-loop kinds source start output₀ codes j₀ output j = 48 - j
 
-slice-aggregate-plain-codes : tie.Need-slice-aggregate-plain-codes Inv-loop μ-loop
-slice-aggregate-plain-codes c = search needs
-
 plain-codes-requires : tie.Need-plain-codes-requires Inv-loop μ-loop
 plain-codes-requires c κs = let p = c .before .before .before .before .pre in (p .0 .within, p .1, search needs)
 
@@ -28,18 +25,10 @@ loop-holds c =
     let e : a .start + 0 ≡ a .start = omega arith in
     (omega arith, refl, rw e)
 
-array-read-output : tie.Need-array-read-output Inv-loop μ-loop
-array-read-output c = search needs
-
-shared-slice-read-output : tie.Need-shared-slice-read-output Inv-loop μ-loop
-shared-slice-read-output c = search needs
-
+-- the code that is read
 code-small : (c : tie.In-loop Inv-loop μ-loop)
     → getD (c .before .before .before .plain-codes .last .1 .1 .0) (c .before .loop .j) 0 < 65536
 code-small c = rw (c .before .before .before .plain-codes .ensures .code _ (c .loop-test .taken)) (half-code-small _)
-
-cast-output : tie.Need-cast-output Inv-loop μ-loop
-cast-output c = omega (arith, code-small (c .before))
 
 add-output : tie.Need-add-output Inv-loop μ-loop
 add-output c =
@@ -66,6 +55,6 @@ pub store-plain-spec : {M : Type 1} → statement M
 store-plain-spec =
     tie.close
     (tie.spec
-    Inv-loop μ-loop slice-aggregate-plain-codes plain-codes-requires loop-holds (λ c. search needs) shared-slice-read-output
-    (λ c. search needs) array-read-output cast-output add-output (λ c. search needs) (λ c. search needs) (λ c. search needs) (λ c. search needs)
-    (λ c. search needs) (λ c. search needs) loop-again (λ c. search needs) returns)
+    Inv-loop μ-loop (λ c. search needs) plain-codes-requires loop-holds (λ c. search needs) (λ c. search needs) (λ c. search needs)
+    (λ c. search needs) (λ c. omega (arith, code-small (c .before))) add-output (λ c. search needs) (λ c. search needs)
+    (λ c. search needs) (λ c. search needs) (λ c. search needs) (λ c. search needs) loop-again (λ c. search needs) returns)
