@@ -1,3 +1,4 @@
 pub mod Pages
 pub mod Pixels
+pub mod Blocks
 pub mod RoundTrip

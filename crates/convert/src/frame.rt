@@ -7,7 +7,7 @@ ghost use Rattle.number.specs.Channels.{codeOf, channelIn};
 ghost use Rattle.word.specs.Words.{pixels, sizeFits, keyFits, sizeWord, keyWord, channelWord, endWord, endIndex, stripLength};
 ghost use Rattle.convert.specs.Converting.{checkPage};
 use number::channel::Decoded;
-use number::channel::channel_to_code;
+use number::channel::decoded_code;
 use refusal::Refusal;
 use refusal::Verdict;
 use word::body::BODY_START;
@@ -45,10 +45,7 @@ pub fn check_page(header: Header, per: u8, count: usize, room: usize) -> Verdict
 pub fn decoded_word(k: usize, decoded: Decoded) -> u32
     ensures { λ r. ⌜ r ≡ channelWord k (codeOf (channelIn decoded)) ⌝ }
 {
-    match decoded {
-        Decoded::Holds(channel) => channel_word(k, channel_to_code(channel)),
-        Decoded::Refuses(_) => channel_word(k, 0),
-    }
+    channel_word(k, decoded_code(decoded))
 }
 
 // The words around the channels: size, key and end.

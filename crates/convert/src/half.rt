@@ -9,12 +9,15 @@ ghost use Rattle.strip.specs.Output.{after};
 ghost use Rattle.convert.specs.Formats.{half, decodedSource};
 ghost use Rattle.convert.specs.Converting.{checkSource, converted};
 use crate::frame::check_page;
-use crate::frame::decoded_word;
 use crate::frame::store_frame;
+use crate::half_blocks::BLOCK;
+use crate::half_blocks::all_finite;
+use crate::half_blocks::fill_kinds;
+use crate::half_blocks::store_block;
+use crate::half_blocks::store_each;
 use number::channel::Decoded;
 use number::source::half_to_channel;
 use refusal::Verdict;
-use word::body::BODY_START;
 use word::body::verdict_at;
 use word::header::Header;
 
@@ -22,6 +25,9 @@ use word::header::Header;
 fn check_half(source: &[u16]) -> Verdict
     ensures { λ r. ⌜ r ≡ firstRefusal (decodedSource half (now (source .entry))) ⌝ }
 {
+    if all_finite(source) {
+        return Verdict::Accepted;
+    }
     let mut k: usize = 0;
     while k < source.len() {
         let decoded = half_to_channel(source[k]);
@@ -33,16 +39,19 @@ fn check_half(source: &[u16]) -> Verdict
     Verdict::Accepted
 }
 
-// The channel words, behind the header words.
+// The channel words, behind the header words: whole blocks, then the rest.
 fn store_half(source: &[u16], output: &mut [u32])
     requires { ⌜ length (now source) + 2 ≤ length (now output) ⌝ }
     ensures { λ _. ⌜ now (output .exit) ≡ sets (now (output .entry)) 2 (bodyWords 0 (channelsOf (decodedSource half (now (source .entry))))) ⌝ }
 {
-    let mut k: usize = 0;
-    while k < source.len() {
-        output[BODY_START + k] = decoded_word(k, half_to_channel(source[k]));
-        k += 1;
+    let mut kinds = [0u32; 48];
+    fill_kinds(&mut kinds);
+    let mut start: usize = 0;
+    while BLOCK <= source.len() - start {
+        store_block(&kinds, source, start, output);
+        start += BLOCK;
     }
+    store_each(source, start, source.len(), output);
 }
 
 // A picture of half floats, 16 bits each, into the strip of a page; a refusal leaves the output as it was.

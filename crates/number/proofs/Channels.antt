@@ -22,10 +22,12 @@ use Rattle.number.specs.Channels.{
   worthOf,
   codeOf,
   channelOfCode,
+  channelIn,
   Coded,
 }
 use Rattle.number.specs.declared.channel.Channel.{Channel}
 use Rattle.number.specs.declared.channel.Channel.the-variants.{Black, Lit}
+use Rattle.number.specs.declared.channel.Decoded.{Decoded}
 use Rattle.number.specs.declared.channel.Decoded.the-variants.{Holds, Refuses}
 use Rattle.number.specs.declared.ratio.Stored.{Stored}
 use Rattle.refusal.specs.declared.Refusal.the-variants.{TooBright, InvalidChannel}
@@ -38,6 +40,10 @@ use Rattle.number.proofs.Ranges.{small, within, large, small-at, within
 pub black : (F : Frac) → AtMost F (twoToMinus blackPower) → channelOf F ≡ Holds Black
 unfolding channelOf
 black F h = small _ _ F _ _ _ h
+
+lit : (F : Frac) → Below (twoToMinus blackPower) F → AtMost F (twoTo brightPower) → channelOf F ≡ Holds (Lit (exponentOf F) (mantissaOf F))
+unfolding channelOf
+lit F g h = within _ _ F _ _ _ g h
 
 -- by the exponent that scales F
 module _ {F : Frac} {i j M : ℕ} (s : Scales F i j M) where
@@ -56,6 +62,18 @@ module _ {F : Frac} {i j M : ℕ} (s : Scales F i j M) where
   unfolding channelOf
   bright-at h = large-at _ _ _ _ _ _ s (omega arith)
 
+-- what holds a channel holds the one that is in it
+pub held : {d : Decoded} {c : Channel} → d ≡ Holds c → d ≡ Holds (channelIn d)
+held e = e ∙ ap (λ x. Holds (channelIn x)) (sym e)
+
+-- what is at most 2^56 is not refused
+pub not-bright : (F : Frac) → AtMost F (twoTo brightPower) → channelOf F ≡ Holds (channelIn (channelOf F))
+not-bright F h = go (decLe (F .num * 2 ^ blackPower) (1 * F .den))
+  where
+    go : Dec (F .num * 2 ^ blackPower ≤ 1 * F .den) → channelOf F ≡ Holds (channelIn (channelOf F))
+    go (yes a) = held (black F (record { cross = a }))
+    go (no a) = held (lit F (record { cross = lt-of-not-le a }) h)
+
 -- "So lit channels have E 72 to 184."
 lit-valid : {F : Frac} {E M : ℕ} → Stores F E M → Below (twoToMinus blackPower) F → AtMost F (twoTo brightPower) → IsLit E M
 lit-valid s a b =
@@ -72,13 +90,13 @@ channel-valid F p c h = go (decLe (F .num * 2 ^ blackPower) (1 * F .den)) (decLe
   where
     go : Dec (F .num * 2 ^ blackPower ≤ 1 * F .den) → Dec (F .num * 1 ≤ 2 ^ brightPower * F .den) → IsChannel c
     go (yes a) b =
-        let q : channelOf F ≡ Holds Black = small _ _ F _ _ _ (record { cross = a }) in
+        let q : channelOf F ≡ Holds Black = black F (record { cross = a }) in
         let e : Black ≡ c = cc in
         subst IsChannel e tt
     go (no a) (yes b) =
         let low : Below (twoToMinus blackPower) F = record { cross = lt-of-not-le a } in
         let high : AtMost F (twoTo brightPower) = record { cross = b } in
-        let q : channelOf F ≡ Holds (Lit (exponentOf F) (mantissaOf F)) = within _ _ F _ _ _ low high in
+        let q : channelOf F ≡ Holds (Lit (exponentOf F) (mantissaOf F)) = lit F low high in
         let e : Lit (exponentOf F) (mantissaOf F) ≡ c = cc in
         subst IsChannel e (lit-valid (stored F blackPower (lit≤ tt) p low) low high)
     go (no a) (no b) =

@@ -8,3 +8,4 @@ pub mod Sticky
 pub mod Shifts
 pub mod Channels
 pub mod Sources
+pub mod Halves

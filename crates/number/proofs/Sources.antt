@@ -1,13 +1,15 @@
--- Every channel that a source number becomes is one. Assumes nothing.
-use mathlib.Core.Path.{_≡_, subst}
+-- The channel of a number by the fields of its pattern; every channel that a source number becomes is one. Assumes nothing.
+use mathlib.Core.Path.{_≡_, refl, sym, ap, _∙_, subst}
 use mathlib.Core.Bool.{Bool, true, false, cond}
-use Prim.Native.Nat.{ℕ, zero, suc, _<_}
+use Prim.Native.Nat.{ℕ, zero, suc, _+_, _-_, _*_, _^_, _<_}
+use native.Mathlib.Nat.{mul-one}
 use native.Mathlib.Omega.{arith}
+use borrow.Author.Tests.{eq-eqb, ne-eqb}
 use lib.Dec.{eqb}
 use lib.Pow.{pow-pos}
 use Rattle.number.specs.Fractions.{Frac, _over_}
 use Rattle.number.specs.Storing.{unit, worth}
-use Rattle.number.specs.Channels.{IsChannel}
+use Rattle.number.specs.Channels.{channelOf, IsChannel}
 use Rattle.number.specs.Sources.{
   Value,
   plus,
@@ -22,9 +24,34 @@ use Rattle.number.specs.Sources.{
 }
 use Rattle.number.specs.declared.channel.Channel.{Channel}
 use Rattle.number.specs.declared.channel.Channel.the-variants.{Black}
-use Rattle.number.specs.declared.channel.Decoded.the-variants.{Holds}
+use Rattle.number.specs.declared.channel.Decoded.the-variants.{Holds, Refuses}
+use Rattle.refusal.specs.declared.Refusal.the-variants.{NotANumber}
 use Rattle.number.proofs.Storing.{unit-pos}
 use Rattle.number.proofs.Channels.{channel-valid}
+
+-- ---- by the fields
+
+pub subnormal : (hidden low x t : ℕ) → x ≡ 0 → magnitude hidden low x t ≡ (t * 2 ^ 0 over 2 ^ low)
+subnormal hidden low x t e = ap (λ (z : ℕ). magnitude hidden low z t) e ∙ ap (λ (z : ℕ). z over 2 ^ low) (sym (mul-one t))
+
+pub normal : (hidden low x t : ℕ) → (x ≡ 0 → ⊥) → magnitude hidden low x t ≡ ((hidden + t) * 2 ^ (x - 1) over 2 ^ low)
+normal hidden low zero t f = absurd (f refl)
+normal hidden low (suc x) t f = let e : x ≡ suc x - 1 = omega arith in ap (λ (z : ℕ). (hidden + t) * 2 ^ z over 2 ^ low) e
+
+module _ (hidden ones low s x t : ℕ) where
+  pub refused : x ≡ ones → channelOfValue (fieldValue hidden ones low s x t) ≡ Refuses NotANumber
+  unfolding fieldValue channelOfValue
+  refused e = simp (eq-eqb _ _ e)
+
+  pub negative : (x ≡ ones → ⊥) → (s ≡ 0 → ⊥) → channelOfValue (fieldValue hidden ones low s x t) ≡ Holds Black
+  unfolding fieldValue channelOfValue
+  negative f g = simp (ne-eqb _ _ f, ne-eqb _ _ g)
+
+  pub positive : (x ≡ ones → ⊥) → s ≡ 0 → channelOfValue (fieldValue hidden ones low s x t) ≡ channelOf (magnitude hidden low x t)
+  unfolding fieldValue channelOfValue
+  positive f e = simp (ne-eqb _ _ f, eq-eqb _ _ e)
+
+-- ---- every channel is one
 
 module _ (c : Channel) where
   Valid : Value → Type 0

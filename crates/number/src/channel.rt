@@ -1,6 +1,6 @@
 // Channels and pixels by value, and a channel's 16-bit form.
 ghost use mathlib.Core.Path.{_≡_};
-ghost use Rattle.number.specs.Channels.{codeOf, channelOfCode};
+ghost use Rattle.number.specs.Channels.{codeOf, channelOfCode, channelIn};
 use refusal::Refusal;
 
 // A channel: black, or lit with an exponent and a mantissa.
@@ -56,5 +56,15 @@ pub fn channel_to_code(channel: Channel) -> u16
     match channel {
         Channel::Black => 0,
         Channel::Lit(exponent, mantissa) => 256 * (exponent as u16) + mantissa as u16,
+    }
+}
+
+// The 16-bit form of what a number stands for; 0, black, for a refusal.
+pub fn decoded_code(decoded: Decoded) -> u16
+    ensures { λ r. ⌜ r ≡ codeOf (channelIn decoded) ⌝ }
+{
+    match decoded {
+        Decoded::Holds(channel) => channel_to_code(channel),
+        Decoded::Refuses(_) => 0,
     }
 }

@@ -2,7 +2,7 @@
 -- Assumes nothing.
 use borrow.Author.Needs.{needs}
 use Prim.Native.Nat.{_-_}
-use mathlib.Core.Path.{_≡_}
+use mathlib.Core.Path.{_≡_, sym}
 use native.Mathlib.Nat.{zero-add}
 use lib.ListN.{length}
 use Rattle.word.specs.Placing.{firstRefusal}
@@ -17,8 +17,8 @@ Inv-loop source k₀ k = checking halfElement 0 source k ≡ firstRefusal (decod
 abbrev μ-loop : tie.MeasureT-loop
 μ-loop source k₀ k = length source - k
 
-returns : tie.Need-returns Inv-loop μ-loop
-returns c =
+returns-2 : tie.Need-returns-2 Inv-loop μ-loop
+returns-2 c =
     let b = c .before .before .before in
     let t = b .before .before in
     checking-refused _ _ _ _ (t .before .loop .inv) (t .loop-test .taken) (b .half-to-channel .ensures) (zero-add _)
@@ -30,13 +30,14 @@ loop-again c =
     let t = b .before .before in
     checking-next _ _ _ _ (t .before .loop .inv) (t .loop-test .taken) (b .half-to-channel .ensures) (c .enum-told .given .1)
 
-returns-2 : tie.Need-returns-2 Inv-loop μ-loop
-returns-2 c = checking-done _ _ _ _ (c .before .loop .inv) (c .loop-test .left)
+returns-3 : tie.Need-returns-3 Inv-loop μ-loop
+returns-3 c = checking-done _ _ _ _ (c .before .loop .inv) (c .loop-test .left)
 
 pub check-half-spec : {M : Type 1} → statement M
 check-half-spec =
     tie.close
     (tie.spec
-    Inv-loop μ-loop (λ c. checking-all _ _ _) (λ c. search needs) (λ c. search needs) (λ c κs. search needs)
-    (λ c. search needs) (λ c. search needs) (λ c κs. search needs) returns (λ c. search needs) (λ c. search needs)
-    loop-again returns-2)
+    Inv-loop μ-loop (λ c κs. search needs) (λ c. sym (c .before .all-finite .ensures (c .if1 .taken))) (λ c. checking-all _ _ _)
+    (λ c. search needs) (λ c. search needs) (λ c κs. search needs)
+    (λ c. search needs) (λ c. search needs) (λ c κs. search needs) returns-2 (λ c. search needs) (λ c. search needs)
+    loop-again returns-3)

@@ -1,37 +1,50 @@
 -- `convert::half::store_half` meets its contract: at each turn the words that are left give the whole. Assumes nothing.
 use borrow.Author.Needs.{needs}
-use Prim.Native.Nat.{_-_}
-use mathlib.Core.Path.{_≡_, refl}
+use Prim.Native.Nat.{_-_, _%_, _≤_}
+use native.Mathlib.Nat.{le-refl}
+use mathlib.Core.Path.{_≡_, refl, _∙_}
+use native.Mathlib.Omega.{arith}
 use lib.ListN.{length}
-use lib.Seq.{sets}
-use Rattle.word.specs.Words.{bodyWords}
-use Rattle.word.specs.Placing.{channelsOf}
-use Rattle.word.proofs.Walks.{writing, writing-all, writing-next, writing-done}
-use Rattle.convert.specs.Formats.{half, halfElement, decodedSource}
+use Rattle.convert.specs.Blocks.{withHalves}
+use Rattle.convert.proofs.Blocks.{halves-all, halves-done}
 use Rattle.convert.proofs.half.store_half.Statement.{statement}
 use Rattle.convert.proofs.half.store_half.Tie as tie
 
 abbrev Inv-loop : tie.InvT-loop
-Inv-loop source output₀ k₀ output k =
-    (length output ≡ length output₀)
-    × (writing halfElement source k output ≡ sets output₀ 2 (bodyWords 0 (channelsOf (decodedSource half source))))
+Inv-loop source output₀ kinds start₀ output start =
+    (start ≤ length source) × (start % 3 ≡ 0) × (length output ≡ length output₀)
+    × (withHalves source start output ≡ withHalves source 0 output₀)
 
 abbrev μ-loop : tie.MeasureT-loop
-μ-loop source output₀ k₀ output k = length source - k
+μ-loop source output₀ kinds start₀ output start = length source - start
+
+store-block-requires : tie.Need-store-block-requires Inv-loop μ-loop
+store-block-requires c κs =
+    let l = c .before .before .before in
+    let i = l .loop .inv in
+    record {
+      table = l .before .before .fill-kinds .ensures;
+      first = i .1;
+      within = omega arith;
+      room = omega arith;
+    }
 
 loop-again : tie.Need-loop-again Inv-loop μ-loop
 loop-again c =
-    let t = c .before .before .before in
-    let l = t .before .loop in
-    writing-next _ _ _ (l .output) (l .inv) (t .loop-test .taken) (c .before .half-to-channel .ensures) (c .decoded-word .ensures)
+    let s = c .before .before in
+    let i = s .before .before .before .before .loop .inv in
+    (omega arith, omega arith, s .store-block .kept .1 .1 .1 .0 ∙ i .2, s .store-block .ensures ∙ i .3)
 
 returns : tie.Need-returns Inv-loop μ-loop
-returns c = writing-done _ _ _ _ (c .before .loop .inv) (c .loop-test .left)
+returns c =
+    let s = c .before .before in
+    let i = s .before .before .before .loop .inv in
+    halves-done _ _ _ (refl, s .store-each .ensures ∙ i .3 ∙ halves-all _ _) (le-refl _)
 
 pub store-half-spec : {M : Type 1} → statement M
 store-half-spec =
     tie.close
     (tie.spec
-    Inv-loop μ-loop (λ c. (refl, writing-all _ _ _)) (λ c. search needs) (λ c. search needs) (λ c κs. search needs)
-    (λ c κs. search needs) (λ c. search needs) (λ c. search needs) (λ c. search needs) (λ c. search needs) (λ c. search needs)
-    loop-again (λ c. search needs) returns)
+    Inv-loop μ-loop (λ c. search needs) (λ c κs. search needs) (λ c. (search needs, search needs, refl, refl)) (λ c. search needs)
+    (λ c. search needs) store-block-requires (λ c. search needs) (λ c. search needs) loop-again (λ c κs. search needs) (λ c. search needs)
+    returns)

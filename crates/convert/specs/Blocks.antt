@@ -1,0 +1,39 @@
+-- What the loops over blocks of 48 halves keep to. Assumes nothing.
+use Prim.Native.Nat.{ℕ, _+_, _%_, _<_, _≤_}
+use mathlib.Core.Path.{_≡_}
+use mathlib.Core.List.{List}
+use lib.ListN.{length, getD, drop}
+use lib.Seq.{sets}
+use Rattle.number.specs.Sources.{NotSubnormal, halfCode}
+use Rattle.word.specs.Words.{channelWord, bodyWords}
+use Rattle.word.specs.Placing.{placed, channelsOf}
+use Rattle.convert.specs.Formats.{halfElement}
+
+-- the words of black channels
+pub record IsKinds (kinds : List ℕ) : Type 0 where
+  pub long : length kinds ≡ 48
+  pub word : (j : ℕ) → j < 48 → getD kinds j 0 ≡ channelWord j 0
+
+-- no half of the block that begins at the index `start` is a positive subnormal number
+pub record IsPlain (xs : List ℕ) (start : ℕ) : Type 0 where
+  pub plain : (j : ℕ) → j < 48 → NotSubnormal (getD xs (start + j) 0)
+
+-- the 16-bit forms of the channels of that block
+pub record AreCodes (xs : List ℕ) (start : ℕ) (codes : List ℕ) : Type 0 where
+  pub long : length codes ≡ 48
+  pub code : (j : ℕ) → j < 48 → getD codes j 0 ≡ halfCode (getD xs (start + j) 0)
+
+-- a block of whole pixels within the source, and an output that has room for all words
+pub record BlockFits (kinds : List ℕ) (start : ℕ) (xs t : List ℕ) : Type 0 where
+  pub table : IsKinds kinds
+  pub first : start % 3 ≡ 0
+  pub within : start + 48 ≤ length xs
+  pub room : length xs + 2 ≤ length t
+
+-- the output t once the words of the halves from number i on are stored in it
+unfoldable pub withHalves : (xs : List ℕ) (i : ℕ) → List ℕ → List ℕ
+withHalves xs i t = sets t (2 + i) (bodyWords i (channelsOf (placed halfElement 0 i (drop i xs))))
+
+-- the words of the halves from number i on, up to j, are stored in t, which is u then: the words that are left give the same output
+abbrev pub StoresHalves : (xs : List ℕ) (i j : ℕ) (t u : List ℕ) → Type 0
+StoresHalves xs i j t u = withHalves xs j u ≡ withHalves xs i t
