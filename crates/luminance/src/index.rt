@@ -121,22 +121,24 @@ pub fn luminance_index(reds: &[u64; 48], blues: &[u64; 48], red: u16, green: u16
     let green_exponent = (green / 256) as u64;
     let r = place_of((red / 256) as u64, green_exponent);
     let b = place_of((blue / 256) as u64, green_exponent);
-    if r < 48 {
-        if b < 48 {
-            let sum = weighted_sum(
-                reds[r as usize],
-                blues[b as usize],
-                (red % 256) as u64,
-                (green % 256) as u64,
-                (blue % 256) as u64,
-            );
-            let first = cut(sum);
-            if first.digits != 6400 {
-                return cut_index(first.digits, first.shift, green_exponent);
-            }
-        }
+    if 48 <= r {
+        return general_index(red, green, blue);
     }
-    general_index(red, green, blue)
+    if 48 <= b {
+        return general_index(red, green, blue);
+    }
+    let sum = weighted_sum(
+        reds[r as usize],
+        blues[b as usize],
+        (red % 256) as u64,
+        (green % 256) as u64,
+        (blue % 256) as u64,
+    );
+    let first = cut(sum);
+    if first.digits == 6400 {
+        return general_index(red, green, blue);
+    }
+    cut_index(first.digits, first.shift, green_exponent)
 }
 
 // The luminance at an index.

@@ -1,6 +1,6 @@
 // A ratio of two whole numbers, stored.
 ghost use mathlib.Core.Path.{_≡_};
-ghost use Prim.Native.Nat.{_+_, _*_, _^_, _≤_, _<_};
+ghost use Prim.Native.Nat.{_+_, _-_, _*_, _^_, _≤_, _<_};
 ghost use Rattle.number.specs.Fractions.{_over_};
 ghost use Rattle.number.specs.Storing.{unit, Normalised, Scales, ratioOf};
 
@@ -102,6 +102,26 @@ fn mantissa(rest: u64, den: u64) -> u8
     }
 }
 
+// What the denominator leaves of an aligned numerator, which is doubled where it is smaller.
+fn rest_of(top: u64, bottom: u64) -> u64
+    requires { ⌜ bottom ≤ 2 * top ⌝ }
+    ensures { λ r. ⌜ (top < bottom → r ≡ top - (bottom - top)) × (bottom ≤ top → r ≡ top - bottom) ⌝ }
+{
+    if top < bottom {
+        top - (bottom - top)
+    } else {
+        top - bottom
+    }
+}
+
+// One place more for an aligned numerator that is not below the denominator.
+fn place_more(top: u64, bottom: u64) -> u8
+    ensures which { λ r. ⌜ (top < bottom → r ≡ 0) × (bottom ≤ top → r ≡ 1) ⌝ }
+    ensures bound { λ r. ⌜ r ≤ 1 ⌝ }
+{
+    if top < bottom { 0 } else { 1 }
+}
+
 // num / den, scaled to above 1/2 and at most 1.
 fn scale(num: u64, den: u64) -> Scaled
     requires { ⌜ (0 < num) × (0 < den) ⌝ }
@@ -118,17 +138,10 @@ fn scale(num: u64, den: u64) -> Scaled
             mantissa: 255,
         };
     }
-    if top < bottom {
-        return Scaled {
-            up: n.shift,
-            down: d.shift,
-            mantissa: mantissa(top - (bottom - top), bottom),
-        };
-    }
     Scaled {
         up: n.shift,
-        down: d.shift + 1,
-        mantissa: mantissa(top - bottom, bottom),
+        down: d.shift + place_more(top, bottom),
+        mantissa: mantissa(rest_of(top, bottom), bottom),
     }
 }
 

@@ -19,33 +19,35 @@ entry-most weight i entries t h = rw (t .entry i h) (mul-le-mul-left weight (pow
 weighted-sum-requires : tie.Need-weighted-sum-requires
 weighted-sum-requires c κs =
     let p = c .before .before .before .before .before .before .pre in (
-      entry-most 27 _ _ (p .0) (c .before .before .before .if1 .taken),
-      entry-most 6 _ _ (p .1) (c .before .before .if2 .taken),
+      entry-most 27 _ _ (p .0) (c .before .before .before .if1 .left),
+      entry-most 6 _ _ (p .1) (c .before .before .if2 .left),
       omega arith,
       omega arith,
       omega arith,
     )
 
-abbrev start : tie.Then3 → tie.Start
+abbrev start : tie.Else3 → tie.Start
 start c = c .before .before .before .before .before .before .before .before .before .before
 
-near : (c : tie.Then3) → let a = start c .args in let s = c .before .before .cut .result in
+near : (c : tie.Else3) → let a = start c .args in let s = c .before .before .cut .result in
     (93 ≤ s .shift + a .green / 256)
     × (128 * (s .shift + a .green / 256 - 93) + min (s .digits / 25 - 128) (s .digits / 25 / 2)
     ≡ indexOf (luminanceOf (codePixel (a .red) (a .green) (a .blue))))
 near c =
     let p = start c .pre in
     let d = c .before .before .before .before .before .before in
-    let x = d .before .if1 .taken in
-    let z = d .if2 .taken in
+    let x = d .before .if1 .left in
+    let z = d .if2 .left in
     pixel-index _ (p .2) (p .3) (p .4) (x, d .before .before .before .place-of .ensures x) (z, d .before .before .place-of2 .ensures z)
     (rw (p .0 .entry _ x, p .1 .entry _ z) at (c .before .before .before .weighted-sum .ensures .0))
-    (c .before .before .cut .ensures) (c .if3 .taken)
+    (c .before .before .cut .ensures) (c .if3 .left)
 
 pub luminance-index-spec : {M : Type 1} → statement M
 luminance-index-spec =
     tie.close
-    (tie.spec (λ c. search needs) (λ c. search needs) (λ c κs. search needs) (λ c. search needs) (λ c κs. search needs)
-    (λ c. search needs) (λ c. search needs) (λ c. search needs) (λ c. search needs) (λ c. search needs) (λ c. search needs)
-    (λ c. search needs) weighted-sum-requires (λ c κs. search needs) (λ c κs. omega (arith, near c .0))
-    (λ c. c .cut-index .ensures ∙ near (c .before) .1) (λ c κs. search needs) (λ c. search needs))
+    (tie.spec
+    (λ c. search needs) (λ c. search needs) (λ c κs. search needs) (λ c. search needs) (λ c κs. search needs)
+    (λ c κs. search needs) (λ c. search needs) (λ c κs. search needs) (λ c. search needs) (λ c. search needs) (λ c. search needs)
+    (λ c. search needs) (λ c. search needs) (λ c. search needs) (λ c. search needs) (λ c. search needs) weighted-sum-requires
+    (λ c κs. search needs) (λ c κs. search needs) (λ c. search needs) (λ c κs. omega (arith, near c .0))
+    (λ c. c .cut-index .ensures ∙ near (c .before) .1))

@@ -1,4 +1,5 @@
--- `number::ratio::mantissa_by_digits` meets its contract: with i digits taken, digits * den + rest is 2^i times the number. Assumes nothing.
+-- `number::ratio::mantissa_by_digits` meets its contract: with i digits taken, digits * den + rest is 2^i times the number.
+-- Assumes nothing.
 use mathlib.Core.Path.{_≡_, subst}
 use Prim.Native.Nat.{ℕ, _+_, _-_, _*_, _^_, _≤_, _<_}
 use native.Mathlib.Omega.{arith}

@@ -22,7 +22,10 @@ module _ (rest part : ℕ) (h : (0 < rest) × (rest < 128 * part)) where
       let ceiling : rest < (q + 1) * part = div-lt-iff-lt-mul positive .0 (omega arith) in
       cell (omega arith) (omega (arith, seven)) (omega arith) (omega arith)
 
+fits : (c : tie.Start) → c .args .rest / c .args .part < 128
+fits c = seven _ _ (c .pre)
+
 pub mantissa-by-division-spec : {M : Type 1} → statement M
 mantissa-by-division-spec =
     tie.close
-    (tie.spec (λ c. search needs) (λ c. omega (arith, seven _ _ (c .pre))) (λ c. omega (arith, seven _ _ (c .pre))) (λ c. divided _ _ (c .pre)))
+    (tie.spec (λ c. search needs) (λ c. omega (arith, fits c)) (λ c. omega (arith, fits c)) (λ c. divided _ _ (c .pre)))
