@@ -48,26 +48,6 @@ fn with_index(logs: &[u16; 128], tally: Tally, index: u64) -> Tally
     with_luminance(logs, tally, stored_at(index))
 }
 
-// The tally of channel words.
-fn tally_pixels(words: &[u32]) -> Tally
-    requires { ⌜ AreCodes (now words) × (length (now words) ≤ 2 ^ 40) ⌝ }
-    ensures { λ r. ⌜ r ≡ tallyOf (luminancesOf (wordPixels (now (words .entry)))) ⌝ }
-{
-    let logs = log_table();
-    let reds = weight_table(27);
-    let blues = weight_table(6);
-    let pixels = words.len() / 3;
-    let mut tally = no_luminance();
-    let mut p: usize = 0;
-    while p < pixels {
-        let at = 3 * p;
-        let index = word_index(&reds, &blues, words[at], words[at + 1], words[at + 2]);
-        tally = with_index(&logs, tally, index);
-        p += 1;
-    }
-    tally
-}
-
 // The two bytes of an index, in a pixel's place.
 fn index_levels(index: u64) -> Levels
     requires { ⌜ index < indexCount ⌝ }
@@ -80,11 +60,11 @@ fn index_levels(index: u64) -> Levels
     }
 }
 
-// The tally of channel words; the index of each pixel's luminance goes into its place of the output.
+// The tally of channel words. In an output that has room for all of them, the index of each pixel's luminance goes into the pixel's place.
 fn index_pixels(words: &[u32], output: &mut [u8]) -> Tally
-    requires { ⌜ AreCodes (now words) × (length (now words) ≤ 2 ^ 40) × (length (now words) ≤ length (now output)) ⌝ }
+    requires { ⌜ AreCodes (now words) × (length (now words) ≤ 2 ^ 40) ⌝ }
     ensures tally { λ r. ⌜ r ≡ tallyOf (luminancesOf (wordPixels (now (words .entry)))) ⌝ }
-    ensures content { λ _. ⌜ now (output .exit) ≡ onto (indexBytes (wordPixels (now (words .entry)))) (now (output .entry)) ⌝ }
+    ensures content { λ _. ⌜ (length (now (words .entry)) ≤ length (now (output .entry)) → now (output .exit) ≡ onto (indexBytes (wordPixels (now (words .entry)))) (now (output .entry))) ⌝ }
 {
     let logs = log_table();
     let reds = weight_table(27);
@@ -95,7 +75,9 @@ fn index_pixels(words: &[u32], output: &mut [u8]) -> Tally
     while p < pixels {
         let at = 3 * p;
         let index = word_index(&reds, &blues, words[at], words[at + 1], words[at + 2]);
-        store_levels(index_levels(index), at, output);
+        if words.len() <= output.len() {
+            store_levels(index_levels(index), at, output);
+        }
         tally = with_index(&logs, tally, index);
         p += 1;
     }
@@ -108,7 +90,8 @@ pub fn body_tally(strip: &[u32]) -> Tally
     ensures { λ r. ⌜ r ≡ tallyOf (stripLuminances (now (strip .entry))) ⌝ }
 {
     let end = BODY_START + 3 * pixel_count(strip[0]);
-    tally_pixels(&strip[BODY_START..end])
+    let mut none = [0u8; 1];
+    index_pixels(&strip[BODY_START..end], &mut none)
 }
 
 // The tally of an accepted strip, with the indices of its luminances in the front of the output.

@@ -19,15 +19,18 @@ index-pixels-requires c κs =
     let count = p .pixel-count .ensures in (
       rw (body-lent _ _ count) (are-codes 2 _ (strip p .channels)),
       omega (arith, words, count, few-pixels _ (strip p)),
-      omega (arith, words, count, p .before .before .before .before .pre .1),
     )
 
 returns : tie.Need-returns
 returns c =
     let i = c .before .before in
     let p = i .before .before .before in
+    let count = p .pixel-count .ensures in
     let s = now (p .before .before .before .before .args .strip) in
-    rw (body-lent s _ (p .pixel-count .ensures), ← pixels-in s (strip p .channels)) at (i .index-pixels .ensures)
+    let content = i .index-pixels .ensures .1 (omega (arith, i .before .before .index-pixels-arg .given, count, p .before .before .before .before .pre .1)) in (
+      rw (body-lent s _ count, ← pixels-in s (strip p .channels)) at (i .index-pixels .ensures .0),
+      rw (body-lent s _ count, ← pixels-in s (strip p .channels)) at content,
+    )
 
 pub body-indices-spec : {M : Type 1} → statement M
 body-indices-spec =

@@ -12,18 +12,20 @@ use Rattle.page.proofs.body_tally.body_tally.Tie as tie
 strip : (c : tie.After-pixel-count) → Whole (now (c .before .before .before .args .strip))
 strip c = whole-strip _ (c .before .before .before .pre)
 
-tally-pixels-requires : tie.Need-tally-pixels-requires
-tally-pixels-requires c κs =
-    let p = c .before in (
-      rw (body-lent _ _ (p .pixel-count .ensures)) (are-codes 2 _ (strip p .channels)),
-      omega (arith, c .tally-pixels-arg .given, p .pixel-count .ensures, few-pixels _ (strip p)),
+index-pixels-requires : tie.Need-index-pixels-requires
+index-pixels-requires c κs =
+    let p = c .before .before in
+    let count = p .pixel-count .ensures in (
+      rw (body-lent _ _ count) (are-codes 2 _ (strip p .channels)),
+      omega (arith, c .before .index-pixels-arg .given, count, few-pixels _ (strip p)),
     )
 
 returns : tie.Need-returns
 returns c =
-    let p = c .before .before in
+    let i = c .before in
+    let p = i .before .before .before in
     let s = now (p .before .before .before .args .strip) in
-    rw (body-lent s _ (p .pixel-count .ensures), ← pixels-in s (strip p .channels)) at (c .tally-pixels .ensures)
+    rw (body-lent s _ (p .pixel-count .ensures), ← pixels-in s (strip p .channels)) at (i .index-pixels .ensures .0)
 
 pub body-tally-spec : {M : Type 1} → statement M
 body-tally-spec =
@@ -32,5 +34,4 @@ body-tally-spec =
     (λ c. omega (arith, whole-strip _ (c .before .before .pre) .head .long)) (λ c κs. search needs)
     (λ c. omega (arith, c .pixel-count .ensures, few-pixels _ (strip c)))
     (λ c. omega (arith, c .pixel-count .ensures, few-pixels _ (strip c))) (λ c. search needs) (λ c. search needs)
-    (λ c. omega (arith, c .pixel-count .ensures, strip c .head .long))
-    tally-pixels-requires returns)
+    (λ c. omega (arith, c .pixel-count .ensures, strip c .head .long)) (λ c. search needs) index-pixels-requires returns)
