@@ -1,12 +1,10 @@
 -- Loops over halves, and over the 48 of a block. Assumes nothing.
-use Prim.Native.Nat.{ℕ, _+_, _*_, _/_, _%_, _<_, _≤_}
-use mathlib.Core.Path.{_≡_, refl, ap, _∙_}
+use Prim.Native.Nat.{ℕ, _+_, _%_, _<_, _≤_}
+use mathlib.Core.Path.{_≡_, refl}
 use mathlib.Core.List.{List}
-use native.Mathlib.Nat.{mul-add-mod-self-left}
 use native.Mathlib.Omega.{arith}
-use borrow.Author.Count.{below-more}
-use lib.ListN.{length, getD, set, length-set}
-use lib.Seq.{sets, getD-set-same, getD-set-other}
+use lib.ListN.{length, getD, set}
+use lib.Seq.{sets}
 use Rattle.number.specs.declared.channel.Channel.{Channel}
 use Rattle.number.specs.declared.channel.Channel.the-variants.{Black, Lit}
 use Rattle.number.specs.declared.channel.Decoded.{Decoded}
@@ -27,19 +25,6 @@ pub finite-next : (xs : List ℕ) (k most next : ℕ) {all : Verdict} → (most 
     → (most ≤ next) × (getD xs k 0 % 32768 ≤ next) → next < 31744 → checking halfElement 0 xs (k + 1) ≡ all
 finite-next xs k most next inv inside h small =
     checking-next _ _ xs k (inv (omega arith)) inside refl (half-finite (getD xs k 0) (omega arith))
-
--- ---- a loop that fills a table
-
--- f j stands at each index j below i
-abbrev pub Filled : (f : ℕ → ℕ) → List ℕ → (i : ℕ) → Type 0
-Filled f t i = (length t ≡ 48) × ((j : ℕ) → j < i → getD t j 0 ≡ f j)
-
-pub filled-next : (f : ℕ → ℕ) (t : List ℕ) (i : ℕ) {w : ℕ} → Filled f t i → i < 48 → w ≡ f i → Filled f (set t i w) (i + 1)
-filled-next f t i {w} inv inside e = (
-  rw length-set (inv .0),
-  below-more (λ j. getD (set t i w) j 0 ≡ f j) i (λ j h. getD-set-other t i j w 0 (λ q. omega arith) ∙ inv .1 j h)
-      (getD-set-same t i w 0 (omega arith) ∙ e),
-)
 
 -- ---- a loop that stores: at each turn the output, once all that are left are stored too, is the one that is meant
 
@@ -68,14 +53,6 @@ half-code-small b = go (channelOfValue (halfValue b)) refl
     go : (d : Decoded) → channelOfValue (halfValue b) ≡ d → codeOf (channelIn d) < 65536
     go (Holds c) e = small c (half-valid c b e)
     go (Refuses r) e = omega arith
-
--- a block begins with a red channel, so that the kinds of its channels are those of the first block
-pub block-word : (start j kind code value : ℕ) → start % 3 ≡ 0 → kind ≡ channelWord j 0 → code ≡ value
-    → kind + code ≡ channelWord (start + j) value
-block-word start j kind code value first a b =
-    let whole : start ≡ 3 * (start / 3) = omega arith in
-    let same : (start + j) % 3 ≡ j % 3 = ap (λ s. (s + j) % 3) whole ∙ mul-add-mod-self-left 3 (start / 3) j in
-    rw (a, b, same) (omega arith)
 
 pub block-next : (xs : List ℕ) (start j : ℕ) (t : List ℕ) {n w : ℕ} {u : List ℕ}
     → (j ≤ 48) × (length t ≡ n) × (withHalves xs (start + j) t ≡ u) → start + 48 ≤ length xs → j < 48

@@ -5,14 +5,10 @@ use mathlib.Core.List.{List}
 use lib.ListN.{length, getD, drop}
 use lib.Seq.{sets}
 use Rattle.number.specs.Sources.{NotSubnormal, halfCode}
-use Rattle.word.specs.Words.{channelWord, bodyWords}
+use Rattle.word.specs.Words.{bodyWords}
+use Rattle.word.specs.Kinds.{IsKinds}
 use Rattle.word.specs.Placing.{placed, channelsOf}
 use Rattle.convert.specs.Formats.{halfElement}
-
--- the words of black channels
-pub record IsKinds (kinds : List ℕ) : Type 0 where
-  pub long : length kinds ≡ 48
-  pub word : (j : ℕ) → j < 48 → getD kinds j 0 ≡ channelWord j 0
 
 -- no half of the block that begins at the index `start` is a positive subnormal number
 pub record IsPlain (xs : List ℕ) (start : ℕ) : Type 0 where

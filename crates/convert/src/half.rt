@@ -10,9 +10,7 @@ ghost use Rattle.convert.specs.Formats.{half, decodedSource};
 ghost use Rattle.convert.specs.Converting.{checkSource, converted};
 use crate::frame::check_page;
 use crate::frame::store_frame;
-use crate::half_blocks::BLOCK;
 use crate::half_blocks::all_finite;
-use crate::half_blocks::fill_kinds;
 use crate::half_blocks::store_block;
 use crate::half_blocks::store_each;
 use number::channel::Decoded;
@@ -20,6 +18,8 @@ use number::source::half_to_channel;
 use refusal::Verdict;
 use word::body::verdict_at;
 use word::header::Header;
+use word::kinds::BLOCK;
+use word::kinds::block_kinds;
 
 // The first element that is no number or too bright.
 fn check_half(source: &[u16]) -> Verdict
@@ -44,8 +44,7 @@ fn store_half(source: &[u16], output: &mut [u32])
     requires { ⌜ length (now source) + 2 ≤ length (now output) ⌝ }
     ensures { λ _. ⌜ now (output .exit) ≡ sets (now (output .entry)) 2 (bodyWords 0 (channelsOf (decodedSource half (now (source .entry))))) ⌝ }
 {
-    let mut kinds = [0u32; 48];
-    fill_kinds(&mut kinds);
+    let kinds = block_kinds();
     let mut start: usize = 0;
     while BLOCK <= source.len() - start {
         store_block(&kinds, source, start, output);

@@ -6,15 +6,13 @@ ghost use lib.ListN.{length};
 ghost use Rattle.refusal.specs.declared.Verdict.the-variants.{Accepted};
 ghost use Rattle.word.specs.Placing.{firstRefusal};
 ghost use Rattle.convert.specs.Formats.{half, decodedSource};
-ghost use Rattle.convert.specs.Blocks.{IsKinds, IsPlain, AreCodes, BlockFits, StoresHalves};
+ghost use Rattle.convert.specs.Blocks.{IsPlain, AreCodes, BlockFits, StoresHalves};
 use number::source::half_code;
 use number::source::one_less;
 use number::source::plain_half_code;
 use word::body::BODY_START;
 use word::body::channel_word;
-
-// The halves of a block.
-pub const BLOCK: usize = 48;
+use word::kinds::BLOCK;
 
 fn greater(a: u16, b: u16) -> u16
     ensures { λ r. ⌜ (a ≤ r) × (b ≤ r) ⌝ }
@@ -53,18 +51,6 @@ fn is_plain(source: &[u16], start: usize) -> bool
         j += 1;
     }
     1023 <= least
-}
-
-// The kinds of a block's words, each the word of a black channel.
-pub fn fill_kinds(kinds: &mut [u32])
-    requires { ⌜ length (now kinds) ≡ 48 ⌝ }
-    ensures { λ _. ⌜ IsKinds (now (kinds .exit)) ⌝ }
-{
-    let mut j: usize = 0;
-    while j < BLOCK {
-        kinds[j] = channel_word(j, 0);
-        j += 1;
-    }
 }
 
 // The words of the halves from number `from` on, up to `end`.

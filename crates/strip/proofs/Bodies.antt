@@ -1,8 +1,10 @@
 -- Laws of the channel words of a strip. Assumes nothing.
-use Prim.Native.Nat.{ℕ, suc, _+_, _-_, _*_, _/_, _%_, _^_, _<_}
+use Prim.Native.Nat.{ℕ, zero, suc, _+_, _-_, _*_, _/_, _%_, _^_, _<_, _≤_}
 use mathlib.Core.Path.{_≡_, refl, sym, ap, _∙_}
 use mathlib.Core.List.{List, [], _∷_, map}
-use native.Mathlib.Nat.{add-sub-cancel-left}
+use native.Mathlib.Decide.{decLt}
+use native.Mathlib.Nat.{add-sub-cancel-left, le-refl}
+use native.Mathlib.Numerals.{add-one}
 use native.Mathlib.Omega.{arith}
 use borrow.Author.Tests.{eq-eqb}
 use lib.ListN.{length, getD, take, drop}
@@ -11,7 +13,6 @@ use Rattle.number.specs.declared.channel.Channel.the-variants.{Black, Lit}
 use Rattle.number.specs.declared.channel.Decoded.the-variants.{Holds}
 use Rattle.number.specs.Channels.{IsChannel, codeOf}
 use Rattle.number.proofs.Laws.{code-channel}
-use Rattle.refusal.specs.declared.Verdict.{Verdict}
 use Rattle.refusal.specs.declared.Verdict.the-variants.{Accepted}
 use Rattle.refusal.proofs.Laws.{and-passed}
 use Rattle.word.specs.Words.{bodyStart, pixels, channelWord}
@@ -20,9 +21,9 @@ use Rattle.word.specs.Fields.{low16, decodeWord}
 use Rattle.word.specs.Pixels.{pixelsOf, wordChannel, wordPixels}
 use Rattle.word.proofs.Decoding.{holds, is-word}
 use Rattle.word.proofs.Pixels.{word-channel}
-use Rattle.word.proofs.Walks.{checking, checking-next}
+use Rattle.word.proofs.Walks.{checking, checking-all, checking-next, checking-done}
 use Rattle.strip.specs.Checks.{headerFields, bodyPart, decodedBody}
-use Rattle.strip.specs.LitWords.{LitWord}
+use Rattle.strip.specs.Holding.{HoldsKind, AllHold}
 use Rattle.strip.specs.Reading.{stripCodes, stripPixels}
 
 -- ---- one word
@@ -44,35 +45,44 @@ word-holds k w c t e =
     let d : decodeWord k w ≡ Holds c = rw e (word-read k c t) in
     d ∙ ap Holds (sym (word-channel k w d))
 
-pub black-holds : (k w : ℕ) → w ≡ channelWord k 0 → decodeWord k w ≡ Holds (wordChannel w)
-black-holds k w e = word-holds k w Black tt e
+-- a word that lies `code` above the black word of its kind, with no carry out of 32 bits
+module _ (black w code : ℕ) (above : (code + black) % 2 ^ 32 ≡ w) where
+  pub black-holds : code ≡ 0 → HoldsKind black w
+  black-holds z = record { held = λ k e. word-holds k w Black tt (omega arith) }
 
-pub lit-holds : (k w : ℕ) → LitWord (channelWord k 0) w → decodeWord k w ≡ Holds (wordChannel w)
-lit-holds k w l =
-    let n = w - channelWord k 0 in
-    word-holds k w (Lit (n / 256) (n % 256))
-    (record { least = omega arith; most = omega arith; mantissa = record { least = omega arith; most = omega arith } })
-    (omega arith)
+  pub lit-holds : 18432 ≤ code → code < 47360 → code / 128 % 2 ≡ 1 → HoldsKind black w
+  lit-holds least most mantissa = record {
+    held = λ k e. word-holds k w (Lit (code / 256) (code % 256))
+        (record { least = omega arith; most = omega arith; mantissa = record { least = omega arith; most = omega arith } })
+        (omega arith);
+  }
 
--- ---- the words of a pixel
+-- ---- words one behind the other
 
--- a word is decoded by its place in the pixel
-same-kind : (k j w : ℕ) → k % 3 ≡ j % 3 → decodeWord k w ≡ decodeWord j w
-unfolding decodeWord
-same-kind k j w e = rw e
+pub none-held : (ws : List ℕ) (i j : ℕ) → j ≤ i → AllHold ws i j
+none-held ws i j h = record { held = λ k l m. absurd (omega arith) }
 
--- three that hold take the check of the words one pixel on
-module _ (ws : List ℕ) (p : ℕ) {all : Verdict} (inv : checking decodeWord 2 ws (3 * p) ≡ all) (inside : 3 * p + 2 < length ws) where
-  next : (i j n : ℕ) → i < length ws → i % 3 ≡ j % 3 → n ≡ i + 1 → checking decodeWord 2 ws i ≡ all
-      → {c : Channel} → decodeWord j (getD ws i 0) ≡ Holds c → checking decodeWord 2 ws n ≡ all
-  next i j n h e f v d = rw f (checking-next decodeWord 2 ws i v h refl (same-kind i j _ e ∙ d))
+pub held-less : (ws : List ℕ) (i j n : ℕ) → AllHold ws i j → n ≤ j → AllHold ws i n
+held-less ws i j n h l = record { held = λ k a b. h .held k a (omega arith) }
 
-  pub checking-pixel : {r g b : Channel} → decodeWord 0 (getD ws (3 * p) 0) ≡ Holds r → decodeWord 1 (getD ws (3 * p + 1) 0) ≡ Holds g
-      → decodeWord 2 (getD ws (3 * p + 2) 0) ≡ Holds b → checking decodeWord 2 ws (3 * (p + 1)) ≡ all
-  checking-pixel r g b =
-      let red = next (3 * p) 0 (3 * p + 1) (omega arith) (omega arith) (omega arith) inv r in
-      let green = next (3 * p + 1) 1 (3 * p + 2) (omega arith) (omega arith) (omega arith) red g in
-      next (3 * p + 2) 2 (3 * (p + 1)) (omega arith) (omega arith) (omega arith) green b
+module _ (ws : List ℕ) (i j : ℕ) (so-far : AllHold ws i j) where
+  pub held-append : (n : ℕ) → AllHold ws j n → AllHold ws i n
+  held-append n more = record { held = λ k l m. go k l m (decLt k j) }
+    where
+      go : (k : ℕ) → i ≤ k → k < n → Dec (k < j) → decodeWord k (getD ws k 0) ≡ Holds (wordChannel (getD ws k 0))
+      go k l m (yes h) = so-far .held k l h
+      go k l m (no h) = more .held k (omega arith) m
+
+  pub held-next : decodeWord j (getD ws j 0) ≡ Holds (wordChannel (getD ws j 0)) → AllHold ws i (j + 1)
+  held-next e = held-append (j + 1) (record { held = λ k l m. let q : k ≡ j = omega arith in rw q e })
+
+-- where all hold, none is refused
+pub held-accepted : (ws : List ℕ) → AllHold ws 0 (length ws) → firstRefusal (placed decodeWord 2 0 ws) ≡ Accepted
+held-accepted ws h = sym (checking-done decodeWord 2 ws (length ws) (go (length ws) (le-refl _)) (le-refl _))
+  where
+    go : (n : ℕ) → n ≤ length ws → checking decodeWord 2 ws n ≡ firstRefusal (placed decodeWord 2 0 ws)
+    go zero l = checking-all _ _ _
+    go (suc n) l = rw (← add-one n) (checking-next decodeWord 2 ws n (go n (omega arith)) (omega arith) refl (h .held n (omega arith) (omega arith)))
 
 -- ---- all words
 

@@ -1,4 +1,4 @@
 pub mod Checks
-pub mod LitWords
+pub mod Holding
 pub mod Reading
 pub mod Output

@@ -1,14 +1,13 @@
 // The checks of a strip, in their order.
 ghost use mathlib.Core.Path.{_≡_};
 ghost use mathlib.Core.Bool.{true};
-ghost use Prim.Native.Nat.{_^_, _≤_, _<_};
-ghost use Rattle.number.specs.declared.channel.Decoded.{Decoded};
+ghost use Prim.Native.Nat.{_+_, _≤_};
+ghost use lib.ListN.{length};
 ghost use Rattle.refusal.specs.declared.Verdict.{Verdict};
 ghost use Rattle.word.specs.Placing.{placed, firstRefusal};
 ghost use Rattle.word.specs.Fields.{decodeWord};
-ghost use Rattle.word.specs.Pixels.{wordChannel};
 ghost use Rattle.strip.specs.Checks.{checkHead, checkBody, checkStrip, checkOutput, checkRow};
-ghost use Rattle.strip.specs.LitWords.{LitWord};
+ghost use Rattle.strip.specs.Holding.{HoldsKind, AllHold, BlockWithin};
 use number::channel::Decoded;
 use refusal::Refusal;
 use refusal::Verdict;
@@ -21,6 +20,8 @@ use word::header::check_size_word;
 use word::header::end_word;
 use word::header::height_in;
 use word::header::pixel_count;
+use word::kinds::BLOCK;
+use word::kinds::block_kinds;
 
 // The header words and the length.
 fn check_head(strip: &[u32]) -> Verdict
@@ -44,57 +45,67 @@ fn check_head(strip: &[u32]) -> Verdict
     }
 }
 
-// The codes of lit channels begin at the first of these and end before the second: 256 times their least exponent, and 256 times the one
-// after their greatest.
+// The 16-bit forms of lit channels begin at this number: 256 times their least exponent.
 const LIT_START: u32 = 18432;
 
-const LIT_END: u32 = 47360;
+// They end before the number that is this much greater: 256 times the number of their exponents.
+const LIT_COUNT: u32 = 28928;
 
-// 0 for the word of a lit channel whose kind is that of a black word, and 1 for any other.
-fn lit_fault(black: u32, word: u32) -> u32
-    requires { ⌜ black < 2 ^ 31 ⌝ }
-    ensures { λ r. ⌜ (r ≤ 1) × (r ≡ 0 → LitWord black word) ⌝ }
+// 0 for a word that holds a channel of the kind of a black word, and 1 for any other.
+fn kind_fault(black: u32, word: u32) -> u32
+    ensures { λ r. ⌜ (r ≤ 1) × (r ≡ 0 → HoldsKind black word) ⌝ }
 {
-    if word < black + LIT_START {
+    let code = std::num::wrapping_sub_u32(word, black);
+    if code == 0 {
+        return 0;
+    }
+    if LIT_COUNT <= std::num::wrapping_sub_u32(code, LIT_START) {
         return 1;
     }
-    if black + LIT_END <= word {
-        return 1;
-    }
-    1 - word / 128 % 2
+    1 - code / 128 % 2
 }
 
-// 0 for a word that holds a channel as the word of channel k, and 1 for any other.
-fn word_fault(k: usize, word: u32) -> u32
-    ensures { λ r. ⌜ (r ≤ 1) × (r ≡ 0 → decodeWord k word ≡ Decoded.Holds (wordChannel word)) ⌝ }
+// True only where every word of the block that begins at `start` holds a channel of its kind. No turn of the loop branches.
+fn block_holds(kinds: &[u32], words: &[u32], start: usize) -> bool
+    requires { ⌜ BlockWithin (now kinds) start (now words) ⌝ }
+    ensures { λ r. ⌜ (r ≡ true → AllHold (now (words .entry)) start (start + 48)) ⌝ }
 {
-    let black = channel_word(k, 0);
-    let fault = lit_fault(black, word);
-    if word == black { 0 } else { fault }
+    let mut faults: u32 = 0;
+    let mut j: usize = 0;
+    while j < BLOCK {
+        faults += kind_fault(kinds[j], words[start + j]);
+        j += 1;
+    }
+    faults == 0
 }
 
-// True only where every word holds a channel of its kind. False for a part of a pixel, and for more words than 32 bits count.
-// No turn of the loop branches.
+// True only where every word from number `from` on holds a channel of its kind.
+fn rest_holds(words: &[u32], from: usize) -> bool
+    ensures { λ r. ⌜ (r ≡ true → AllHold (now (words .entry)) from (length (now (words .entry)))) ⌝ }
+{
+    let mut k = from;
+    while k < words.len() {
+        if kind_fault(channel_word(k, 0), words[k]) != 0 {
+            return false;
+        }
+        k += 1;
+    }
+    true
+}
+
+// True only where every word holds a channel of its kind: whole blocks, then the rest.
 fn all_hold(words: &[u32]) -> bool
     ensures { λ r. ⌜ (r ≡ true → firstRefusal (placed decodeWord 2 0 (now (words .entry))) ≡ Verdict.Accepted) ⌝ }
 {
-    let pixels = words.len() / 3;
-    if words.len() != 3 * pixels {
-        return false;
+    let kinds = block_kinds();
+    let mut start: usize = 0;
+    while BLOCK <= words.len() - start {
+        if !block_holds(&kinds, words, start) {
+            return false;
+        }
+        start += BLOCK;
     }
-    if 4294967295 < words.len() {
-        return false;
-    }
-    let mut faults: u32 = 0;
-    let mut p: usize = 0;
-    while p < pixels {
-        let at = 3 * p;
-        faults += word_fault(0, words[at])
-            + word_fault(1, words[at + 1])
-            + word_fault(2, words[at + 2]);
-        p += 1;
-    }
-    faults == 0
+    rest_holds(words, start)
 }
 
 // The first word that is no channel of its kind ends the walk. The first word is that of channel 0, at BODY_START.

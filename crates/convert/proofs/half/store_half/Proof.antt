@@ -23,7 +23,7 @@ store-block-requires c κs =
     let l = c .before .before .before in
     let i = l .loop .inv in
     record {
-      table = l .before .before .fill-kinds .ensures;
+      table = l .before .block-kinds .ensures;
       first = i .1;
       within = omega arith;
       room = omega arith;
@@ -45,6 +45,6 @@ pub store-half-spec : {M : Type 1} → statement M
 store-half-spec =
     tie.close
     (tie.spec
-    Inv-loop μ-loop (λ c. search needs) (λ c κs. search needs) (λ c. (search needs, search needs, refl, refl)) (λ c. search needs)
+    Inv-loop μ-loop (λ c κs. search needs) (λ c. (search needs, search needs, refl, refl)) (λ c. search needs)
     (λ c. search needs) store-block-requires (λ c. search needs) (λ c. search needs) loop-again (λ c κs. search needs) (λ c. search needs)
     returns)

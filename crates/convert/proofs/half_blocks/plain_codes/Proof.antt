@@ -5,7 +5,7 @@ use native.Mathlib.Omega.{arith}
 use lib.ListN.{getD}
 use denote.Ref.{now}
 use Rattle.number.specs.Sources.{halfCode}
-use Rattle.convert.proofs.Blocks.{Filled, filled-next}
+use Rattle.word.proofs.Blocks.{Filled, filled-next}
 use Rattle.convert.proofs.half_blocks.plain_codes.Statement.{statement}
 use Rattle.convert.proofs.half_blocks.plain_codes.Tie as tie
 

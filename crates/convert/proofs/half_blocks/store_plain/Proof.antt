@@ -4,8 +4,9 @@ use Prim.Native.Nat.{_+_, _-_, _<_, _≤_}
 use mathlib.Core.Path.{_≡_, refl}
 use native.Mathlib.Omega.{arith}
 use lib.ListN.{length, getD}
+use Rattle.word.proofs.Blocks.{kind-at}
 use Rattle.convert.specs.Blocks.{withHalves}
-use Rattle.convert.proofs.Blocks.{half-code-small, block-word, block-next}
+use Rattle.convert.proofs.Blocks.{half-code-small, block-next}
 use Rattle.convert.proofs.half_blocks.store_plain.Statement.{statement}
 use Rattle.convert.proofs.half_blocks.store_plain.Tie as tie
 
@@ -42,8 +43,9 @@ loop-again c =
     let l = t .before .loop in
     let s = t .before .before .before in
     let p = s .before .before .before .before .before .pre .0 in
+    let kind = kind-at _ _ _ (p .table) (p .first) (t .loop-test .taken) in
     block-next _ _ _ (l .output) (l .inv) (p .within) (t .loop-test .taken)
-    (block-word _ _ _ _ _ (p .first) (p .table .word _ (t .loop-test .taken)) (s .plain-codes .ensures .code _ (t .loop-test .taken)))
+    (rw (kind, s .plain-codes .ensures .code _ (t .loop-test .taken)) (omega arith))
 
 returns : tie.Need-returns Inv-loop μ-loop
 returns c =

@@ -1,48 +1,39 @@
--- `strip::check::all_hold` meets its contract: as long as no fault is counted, the verdict on the words that are left is that on all.
--- Assumes nothing.
+-- `strip::check::all_hold` meets its contract: the words of the blocks so far hold. Assumes nothing.
 use borrow.Author.Needs.{needs}
-use Prim.Native.Nat.{_-_, _*_, _≤_}
-use mathlib.Core.Path.{_≡_, sym}
+use borrow.Author.Tests.{not-false}
+use Prim.Native.Nat.{_-_, _%_, _≤_}
+use mathlib.Core.Path.{_≡_}
+use native.Mathlib.Nat.{le-refl}
 use native.Mathlib.Omega.{arith}
-use borrow.Author.Tests.{eqb-true}
-use Rattle.word.specs.Placing.{placed, firstRefusal}
-use Rattle.word.specs.Fields.{decodeWord}
-use Rattle.word.proofs.Walks.{checking, checking-all, checking-done}
-use Rattle.strip.proofs.Bodies.{checking-pixel}
+use lib.ListN.{length}
+use Rattle.strip.specs.Holding.{AllHold}
+use Rattle.strip.proofs.Bodies.{none-held, held-append, held-accepted}
 use Rattle.strip.proofs.check.all_hold.Statement.{statement}
 use Rattle.strip.proofs.check.all_hold.Tie as tie
 
 abbrev Inv-loop : tie.InvT-loop
-Inv-loop words pixels faults₀ p₀ faults p =
-    (p ≤ pixels) × (faults ≤ 3 * p) × (faults ≡ 0 → checking decodeWord 2 words (3 * p) ≡ firstRefusal (placed decodeWord 2 0 words))
+Inv-loop words kinds start₀ start = (start ≤ length words) × (start % 3 ≡ 0) × AllHold words 0 start
 
 abbrev μ-loop : tie.MeasureT-loop
-μ-loop words pixels faults₀ p₀ faults p = pixels - p
+μ-loop words kinds start₀ start = length words - start
 
-loop-holds : tie.Need-loop-holds Inv-loop μ-loop
-loop-holds c = (omega arith, omega arith, λ e. checking-all _ _ _)
+block-holds-requires : tie.Need-block-holds-requires Inv-loop μ-loop
+block-holds-requires c κs =
+    let l = c .before .before in
+    record { table = l .before .block-kinds .ensures; first = l .loop .inv .1; within = omega arith }
 
 loop-again : tie.Need-loop-again Inv-loop μ-loop
 loop-again c =
-    let g = c .before .before in
-    let r = g .before .before in
-    let v = r .before .before .before .loop in (
-      omega arith,
-      omega arith,
-      λ e. checking-pixel _ (v .p) (v .inv .2 (omega arith)) (omega arith) (r .word-fault .ensures .1 (omega arith))
-          (g .word-fault2 .ensures .1 (omega arith)) (c .word-fault3 .ensures .1 (omega arith)),
-    )
+    let b = c .before in
+    let i = b .before .before .before .loop .inv in
+    (omega arith, omega arith, held-append _ _ _ (i .2) _ (b .block-holds .ensures (not-false _ (c .if1 .left))))
 
-returns-3 : tie.Need-returns-3 Inv-loop μ-loop
-returns-3 c e =
-    let v = c .before .loop in
-    sym (checking-done decodeWord 2 _ (3 * v .p) (v .inv .2 (eqb-true _ _ e)) (omega arith))
+returns-2 : tie.Need-returns-2 Inv-loop μ-loop
+returns-2 c e = held-accepted _ (held-append _ _ _ (c .before .before .loop .inv .2) _ (c .rest-holds .ensures e))
 
 pub all-hold-spec : {M : Type 1} → statement M
 all-hold-spec =
     tie.close
     (tie.spec
-    Inv-loop μ-loop (λ c. search needs) (λ c e. cc) (λ c e. cc) loop-holds (λ c. search needs) (λ c. search needs) (λ c. search needs)
-    (λ c κs. search needs) (λ c. search needs) (λ c. search needs) (λ c. search needs) (λ c κs. search needs) (λ c. search needs)
-    (λ c. search needs) (λ c. search needs) (λ c. search needs) (λ c κs. search needs) (λ c. search needs) (λ c. search needs)
-    (λ c. search needs) (λ c. search needs) loop-again returns-3)
+    Inv-loop μ-loop (λ c κs. search needs) (λ c. (omega arith, omega arith, none-held _ _ _ (le-refl _))) (λ c. search needs)
+    (λ c. search needs) block-holds-requires (λ c e. cc) (λ c. search needs) (λ c. search needs) loop-again (λ c κs. search needs) returns-2)

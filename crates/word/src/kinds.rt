@@ -1,0 +1,19 @@
+// The kinds of channel words in blocks of 48, which are 16 pixels.
+ghost use Rattle.word.specs.Kinds.{IsKinds};
+use crate::body::channel_word;
+
+// The channel words of a block.
+pub const BLOCK: usize = 48;
+
+// The kinds of a block's words, each the word of a black channel.
+pub fn block_kinds() -> [u32; 48]
+    ensures { λ r. ⌜ IsKinds r ⌝ }
+{
+    let mut kinds = [0u32; 48];
+    let mut j: usize = 0;
+    while j < BLOCK {
+        kinds[j] = channel_word(j, 0);
+        j += 1;
+    }
+    kinds
+}
