@@ -57,8 +57,7 @@ pub fn one_less(bits: u16) -> u16
 // The 16-bit form of the channel of a half that is no positive subnormal number, without a branch; 0 where the half is refused. A normal
 // half has its own exponent and first digits; a power of two has the exponent below, and the mantissa 255.
 pub fn plain_half_code(bits: u16) -> u16
-    requires { ⌜ NotSubnormal bits ⌝ }
-    ensures { λ r. ⌜ r ≡ halfCode bits ⌝ }
+    ensures { λ r. ⌜ (NotSubnormal bits → r ≡ halfCode bits) ⌝ }
 {
     let digits = bits >> 3;
     let more = if bits % 1024 == 0 { 0 } else { 129 };

@@ -15,15 +15,13 @@ Inv-loop source start codes₀ j₀ codes j = Filled (λ k. halfCode (getD sourc
 abbrev μ-loop : tie.MeasureT-loop
 μ-loop source start codes₀ j₀ codes j = 48 - j
 
-plain-half-code-requires : tie.Need-plain-half-code-requires Inv-loop μ-loop
-plain-half-code-requires c κs = let t = c .before in t .before .before .before .before .pre .1 .plain _ (t .loop-test .taken)
-
 loop-again : tie.Need-loop-again Inv-loop μ-loop
 loop-again c =
     let t = c .before .before in
-    let a = t .before .before .before .before .args in
+    let s = t .before .before .before .before in
+    let a = s .args in
     filled-next (λ k. halfCode (getD (now (a .source)) (a .start + k) 0)) (t .before .loop .codes) _
-    (t .before .loop .inv) (t .loop-test .taken) (c .plain-half-code .ensures)
+    (t .before .loop .inv) (t .loop-test .taken) (c .plain-half-code .ensures (s .pre .1 .plain _ (t .loop-test .taken)))
 
 returns : tie.Need-returns Inv-loop μ-loop
 returns c = record { long = c .before .loop .inv .0; code = λ k h. c .before .loop .inv .1 k (omega arith) }
@@ -33,5 +31,5 @@ plain-codes-spec =
     tie.close
     (tie.spec
     Inv-loop μ-loop (λ c. (search needs, λ k h. absurd (omega arith))) (λ c. search needs) (λ c. search needs) (λ c. search needs)
-    plain-half-code-requires (λ c. search needs) (λ c. search needs) (λ c. search needs) (λ c. search needs)
+    (λ c κs. search needs) (λ c. search needs) (λ c. search needs) (λ c. search needs) (λ c. search needs)
     loop-again (λ c. search needs) returns)

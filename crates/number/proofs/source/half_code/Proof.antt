@@ -1,5 +1,6 @@
 -- `number::source::half_code` meets its contract. Assumes nothing.
 use borrow.Author.Needs.{needs}
+use native.Mathlib.Omega.{arith}
 use Rattle.number.proofs.source.half_code.Statement.{statement}
 use Rattle.number.proofs.source.half_code.Tie as tie
 
@@ -8,4 +9,5 @@ half-code-spec =
     tie.close
     (tie.spec
     (λ c κs. search needs) (λ c κs. search needs) (λ c κs. search needs) (λ c κs. search needs)
-    (λ c. rw (c .before .half-to-channel .ensures) at (c .decoded-code .ensures)) (λ c. search needs))
+    (λ c. rw (c .before .half-to-channel .ensures) at (c .decoded-code .ensures))
+    (λ c. c .plain-half-code .ensures (omega arith)))

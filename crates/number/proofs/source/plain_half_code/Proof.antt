@@ -11,10 +11,10 @@ add-code-3 : tie.Need-add-code-3
 add-code-3 c = ⊎-elim (λ w. omega arith) (λ w. omega arith) (c .before .if1 .came)
 
 returns : tie.Need-returns
-returns c = sym (half-black _ (omega arith) (inl (omega arith)))
+returns c h = sym (half-black _ (omega arith) (inl (omega arith)))
 
 returns-2 : tie.Need-returns-2
-returns-2 c =
+returns-2 c h =
     let b = c .before .before .before .before .args .bits in
     ⊎-elim
     (λ w.
