@@ -7,6 +7,7 @@ use native.Mathlib.Nat.{add-sub-cancel-left, le-refl}
 use native.Mathlib.Numerals.{add-one}
 use native.Mathlib.Omega.{arith}
 use borrow.Author.Tests.{eq-eqb}
+use lib.Bits.{bitOr, or-add-and, and-le-l, and-le-r, or-shr, or-mod}
 use lib.ListN.{length, getD, take, drop}
 use Rattle.number.specs.declared.channel.Channel.{Channel}
 use Rattle.number.specs.declared.channel.Channel.the-variants.{Black, Lit}
@@ -23,7 +24,7 @@ use Rattle.word.proofs.Decoding.{holds, is-word}
 use Rattle.word.proofs.Pixels.{word-channel}
 use Rattle.word.proofs.Walks.{checking, checking-all, checking-next, checking-done}
 use Rattle.strip.specs.Checks.{headerFields, bodyPart, decodedBody}
-use Rattle.strip.specs.Holding.{HoldsKind, AllHold}
+use Rattle.strip.specs.Holding.{NoFault, HoldsKind, AllHold}
 use Rattle.strip.specs.Reading.{stripCodes, stripPixels}
 
 -- ---- one word
@@ -45,17 +46,30 @@ word-holds k w c t e =
     let d : decodeWord k w ≡ Holds c = rw e (word-read k c t) in
     d ∙ ap Holds (sym (word-channel k w d))
 
--- a word that lies `code` above the black word of its kind, with no carry out of 32 bits
-module _ (black w code : ℕ) (above : (code + black) % 2 ^ 32 ≡ w) where
+-- a word that lies `code` above the black word of its kind, in 32 bits
+module _ (black w code : ℕ) (wraps : (code + black) % 2 ^ 32 ≡ w) where
   pub black-holds : code ≡ 0 → HoldsKind black w
   black-holds z = record { held = λ k e. word-holds k w Black tt (omega arith) }
 
-  pub lit-holds : 18432 ≤ code → code < 47360 → code / 128 % 2 ≡ 1 → HoldsKind black w
-  lit-holds least most mantissa = record {
-    held = λ k e. word-holds k w (Lit (code / 256) (code % 256))
+  -- `above` is how far the code lies above the least lit one
+  pub lit-holds : (above : ℕ) → above < 28928 → above / 128 % 2 ≡ 0 → (above + 18560) % 2 ^ 32 ≡ code → HoldsKind black w
+  lit-holds above small even e = record {
+    held = λ k f. word-holds k w (Lit (code / 256) (code % 256))
         (record { least = omega arith; most = omega arith; mantissa = record { least = omega arith; most = omega arith } })
         (omega arith);
   }
+
+-- ---- the bits of two numbers
+
+or-most : (a b : ℕ) → (a ≤ bitOr a b) × (b ≤ bitOr a b)
+or-most a b = (omega (arith, or-add-and a b, and-le-r a b), omega (arith, or-add-and a b, and-le-l a b))
+
+pub or-none : (a b : ℕ) → NoFault (bitOr a b) → NoFault a × NoFault b
+or-none a b none =
+    let whole = or-most a b in
+    let digit = or-most (a / 128 % 2) (b / 128 % 2) in
+    let e : bitOr a b / 128 % 2 ≡ bitOr (a / 128 % 2) (b / 128 % 2) = ap (λ n. n % 2) (or-shr a b 7) ∙ or-mod (a / 128) (b / 128) 1 in
+    (record { small = omega arith; even = omega arith }, record { small = omega arith; even = omega arith })
 
 -- ---- words one behind the other
 
@@ -82,7 +96,9 @@ held-accepted ws h = sym (checking-done decodeWord 2 ws (length ws) (go (length 
   where
     go : (n : ℕ) → n ≤ length ws → checking decodeWord 2 ws n ≡ firstRefusal (placed decodeWord 2 0 ws)
     go zero l = checking-all _ _ _
-    go (suc n) l = rw (← add-one n) (checking-next decodeWord 2 ws n (go n (omega arith)) (omega arith) refl (h .held n (omega arith) (omega arith)))
+    go (suc n) l =
+        rw (← add-one n)
+        (checking-next decodeWord 2 ws n (go n (omega arith)) (omega arith) refl (h .held n (omega arith) (omega arith)))
 
 -- ---- all words
 

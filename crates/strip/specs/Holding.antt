@@ -1,5 +1,5 @@
 -- Words that hold a channel of their kind. Assumes nothing.
-use Prim.Native.Nat.{ℕ, _+_, _%_, _<_, _≤_}
+use Prim.Native.Nat.{ℕ, _+_, _/_, _%_, _<_, _≤_}
 use mathlib.Core.Path.{_≡_}
 use mathlib.Core.List.{List}
 use lib.ListN.{length, getD}
@@ -8,6 +8,11 @@ use Rattle.word.specs.Fields.{decodeWord}
 use Rattle.word.specs.Kinds.{IsKinds}
 use Rattle.word.specs.Pixels.{wordChannel}
 use Rattle.word.specs.Words.{channelWord}
+
+-- neither bit 7 nor a bit from 15 on is set
+pub record NoFault (bits : ℕ) : Type 0 where
+  pub small : bits < 32768
+  pub even : bits / 128 % 2 ≡ 0
 
 -- word w holds a channel as the word of each channel k whose black word is this one
 pub record HoldsKind (black w : ℕ) : Type 0 where

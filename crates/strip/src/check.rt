@@ -1,13 +1,13 @@
 // The checks of a strip, in their order.
 ghost use mathlib.Core.Path.{_≡_};
 ghost use mathlib.Core.Bool.{true};
-ghost use Prim.Native.Nat.{_+_, _≤_};
+ghost use Prim.Native.Nat.{_+_};
 ghost use lib.ListN.{length};
 ghost use Rattle.refusal.specs.declared.Verdict.{Verdict};
 ghost use Rattle.word.specs.Placing.{placed, firstRefusal};
 ghost use Rattle.word.specs.Fields.{decodeWord};
 ghost use Rattle.strip.specs.Checks.{checkHead, checkBody, checkStrip, checkOutput, checkRow};
-ghost use Rattle.strip.specs.Holding.{HoldsKind, AllHold, BlockWithin};
+ghost use Rattle.strip.specs.Holding.{NoFault, HoldsKind, AllHold, BlockWithin};
 use number::channel::Decoded;
 use refusal::Refusal;
 use refusal::Verdict;
@@ -45,24 +45,38 @@ fn check_head(strip: &[u32]) -> Verdict
     }
 }
 
-// The 16-bit forms of lit channels begin at this number: 256 times their least exponent.
-const LIT_START: u32 = 18432;
+// The 16-bit form of the least lit channel: exponent 72, mantissa 128.
+const LEAST_LIT: u32 = 18560;
 
-// They end before the number that is this much greater: 256 times the number of their exponents.
-const LIT_COUNT: u32 = 28928;
+// 256 times the number of exponents of lit channels, 28928, lies this much below 2^15.
+const BELOW_BIT_15: u32 = 3840;
 
-// 0 for a word that holds a channel of the kind of a black word, and 1 for any other.
-fn kind_fault(black: u32, word: u32) -> u32
-    ensures { λ r. ⌜ (r ≤ 1) × (r ≡ 0 → HoldsKind black word) ⌝ }
+// Each bit that is set in a or in b.
+fn either(a: u32, b: u32) -> u32
+    ensures { λ r. ⌜ (NoFault r → NoFault a × NoFault b) ⌝ }
+{
+    a | b
+}
+
+// Bit 7 and the bits from 15 on are 0 only for a word that holds a channel of the kind of a black word. The 16-bit form of a lit channel
+// lies above the least one by 256 times the exponent less 72, plus the mantissa less 128: by less than 28928, with bit 7 zero.
+fn fault_bits(black: u32, word: u32) -> u32
+    ensures { λ r. ⌜ (NoFault r → HoldsKind black word) ⌝ }
 {
     let code = std::num::wrapping_sub_u32(word, black);
-    if code == 0 {
-        return 0;
+    let above = std::num::wrapping_sub_u32(code, LEAST_LIT);
+    let bits = either(above, std::num::wrapping_add_u32(above, BELOW_BIT_15));
+    if code == 0 { 0 } else { bits }
+}
+
+// True only where neither bit 7 nor a bit from 15 on is set.
+fn no_fault(bits: u32) -> bool
+    ensures { λ r. ⌜ (r ≡ true → NoFault bits) ⌝ }
+{
+    if 32768 <= bits {
+        return false;
     }
-    if LIT_COUNT <= std::num::wrapping_sub_u32(code, LIT_START) {
-        return 1;
-    }
-    1 - code / 128 % 2
+    bits / 128 % 2 == 0
 }
 
 // True only where every word of the block that begins at `start` holds a channel of its kind. No turn of the loop branches.
@@ -70,13 +84,13 @@ fn block_holds(kinds: &[u32], words: &[u32], start: usize) -> bool
     requires { ⌜ BlockWithin (now kinds) start (now words) ⌝ }
     ensures { λ r. ⌜ (r ≡ true → AllHold (now (words .entry)) start (start + 48)) ⌝ }
 {
-    let mut faults: u32 = 0;
+    let mut bits: u32 = 0;
     let mut j: usize = 0;
     while j < BLOCK {
-        faults += kind_fault(kinds[j], words[start + j]);
+        bits = either(bits, fault_bits(kinds[j], words[start + j]));
         j += 1;
     }
-    faults == 0
+    no_fault(bits)
 }
 
 // True only where every word from number `from` on holds a channel of its kind.
@@ -85,7 +99,7 @@ fn rest_holds(words: &[u32], from: usize) -> bool
 {
     let mut k = from;
     while k < words.len() {
-        if kind_fault(channel_word(k, 0), words[k]) != 0 {
+        if !no_fault(fault_bits(channel_word(k, 0), words[k])) {
             return false;
         }
         k += 1;

@@ -2,7 +2,7 @@
 ghost use Rattle.word.specs.Kinds.{IsKinds};
 use crate::body::channel_word;
 
-// The channel words of a block.
+// The number of channel words in a block.
 pub const BLOCK: usize = 48;
 
 // The kinds of a block's words, each the word of a black channel.

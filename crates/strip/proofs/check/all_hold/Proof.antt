@@ -36,4 +36,5 @@ all-hold-spec =
     tie.close
     (tie.spec
     Inv-loop μ-loop (λ c κs. search needs) (λ c. (omega arith, omega arith, none-held _ _ _ (le-refl _))) (λ c. search needs)
-    (λ c. search needs) block-holds-requires (λ c e. cc) (λ c. search needs) (λ c. search needs) loop-again (λ c κs. search needs) returns-2)
+    (λ c. search needs) block-holds-requires (λ c e. cc) (λ c. search needs) (λ c. search needs) loop-again
+    (λ c κs. search needs) returns-2)

@@ -1,5 +1,6 @@
 -- `strip::check::rest_holds` meets its contract: the words so far hold. Assumes nothing.
 use borrow.Author.Needs.{needs}
+use borrow.Author.Tests.{not-false}
 use Prim.Native.Nat.{ℕ, _-_}
 use mathlib.Core.Path.{_≡_}
 use native.Mathlib.Nat.{le-refl}
@@ -18,14 +19,17 @@ abbrev μ-loop : tie.MeasureT-loop
 
 loop-again : tie.Need-loop-again Inv-loop μ-loop
 loop-again c =
-    let f = c .before in
+    let n = c .before in
+    let f = n .before in
     let w = f .before .before in
-    held-next _ _ _ (w .before .before .loop .inv) (f .kind-fault .ensures .1 (omega arith) .held _ (w .channel-word .ensures))
+    let none = n .no-fault .ensures (not-false _ (c .if1 .left)) in
+    held-next _ _ _ (w .before .before .loop .inv) (f .fault-bits .ensures none .held _ (w .channel-word .ensures))
 
 pub rest-holds-spec : {M : Type 1} → statement M
 rest-holds-spec =
     tie.close
     (tie.spec
     Inv-loop μ-loop (λ c. none-held _ _ _ (le-refl _)) (λ c κs. search needs) (λ c. search needs) (λ c. search needs)
-    (λ c κs. search needs) (λ c e. let z : _≡_ {A = ℕ} 0 1 = cc in absurd (omega arith)) (λ c. search needs) (λ c. search needs) loop-again
+    (λ c κs. search needs) (λ c κs. search needs) (λ c e. let z : _≡_ {A = ℕ} 0 1 = cc in absurd (omega arith))
+    (λ c. search needs) (λ c. search needs) loop-again
     (λ c e. held-less _ _ _ _ (c .before .loop .inv) (c .loop-test .left)))
