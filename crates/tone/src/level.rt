@@ -109,11 +109,3 @@ pub fn display_by(codes: &[u16; 128], key: u64, luminance: Stored, average: Stor
         mantissa: (code % 256) as u8,
     })
 }
-
-// Steps 4 and 5: the display luminance of a pixel's luminance under a key and an average.
-pub fn display(key: u64, luminance: Stored, average: Stored) -> Stored
-    requires { ⌜ IsKey key × IsLuminance luminance × IsStoredAverage average ⌝ }
-    ensures { λ r. ⌜ r ≡ displayOf reinhard (scaledOf key luminance average) ⌝ }
-{
-    display_luminance(scaled_luminance(key, luminance, average))
-}
