@@ -10,6 +10,7 @@ ghost use Rattle.strip.specs.Output.{onto};
 ghost use Rattle.strip.specs.Reading.{stripPixels};
 ghost use Rattle.tone.specs.Factors.{IsPowerTable, IsReciprocalTable};
 ghost use Rattle.tone.specs.Levels.{IsKey};
+ghost use Rattle.tone.specs.ScaledTables.{IsScaledTable};
 ghost use Rattle.word.specs.Fields.{low16};
 ghost use Rattle.word.specs.Pixels.{pixelOf, wordChannel, wordPixels};
 ghost use Rattle.average.specs.Averages.{IsStoredAverage};
@@ -24,7 +25,8 @@ use tone::factor::factor;
 use tone::factor::level_by;
 use tone::factor::power_table;
 use tone::factor::reciprocal_table;
-use tone::level::display;
+use tone::level::display_by;
+use tone::level::scaled_table;
 use word::body::BODY_START;
 use word::header::low_half;
 use word::header::pixel_count;
@@ -44,12 +46,14 @@ fn empty_table() -> [u64; 15232]
 // The factor of the luminance at an index, from the table, which keeps it.
 fn factor_at(
     reciprocals: &[u64; 128],
+    scaled: &[u16; 128],
     key: u64,
     average: Stored,
     index: usize,
     factors: &mut [u64; 15232],
 ) -> u64
-    requires { ⌜ IsReciprocalTable (now reciprocals) × IsKey key × IsStoredAverage average × IsIndex index × IsFactorTable key average (now factors) ⌝ }
+    requires { ⌜ IsReciprocalTable (now reciprocals) × IsKey key × IsStoredAverage average × IsIndex index × IsFactorTable key average (now factors)
+        × IsScaledTable key average (now scaled) ⌝ }
     ensures factor { λ r. ⌜ r ≡ factorUnder key average index ⌝ }
     ensures table { λ _. ⌜ IsFactorTable key average (now (factors .exit)) ⌝ }
 {
@@ -58,7 +62,11 @@ fn factor_at(
         return kept;
     }
     let luminance = stored_at(index as u64);
-    let made = factor(reciprocals, display(key, luminance, average), luminance);
+    let made = factor(
+        reciprocals,
+        display_by(scaled, key, luminance, average),
+        luminance,
+    );
     factors[index] = made;
     made
 }
@@ -89,13 +97,14 @@ fn fill_levels(words: &[u32], key: u64, average: Stored, output: &mut [u8])
 {
     let powers = power_table();
     let reciprocals = reciprocal_table();
+    let scaled = scaled_table(key, average);
     let mut factors = empty_table();
     let pixels = words.len() / 3;
     let mut p: usize = 0;
     while p < pixels {
         let at = 3 * p;
         let index = index_in(output[at], output[at + 1]);
-        let factor = factor_at(&reciprocals, key, average, index, &mut factors);
+        let factor = factor_at(&reciprocals, &scaled, key, average, index, &mut factors);
         let levels = pixel_levels(&powers, factor, words[at], words[at + 1], words[at + 2]);
         store_levels(levels, at, output);
         p += 1;

@@ -2,6 +2,7 @@
 pub mod Laws
 -- steps 4 to 6
 pub mod Scaled
+pub mod ScaledTables
 pub mod Displays
 pub mod LevelSteps
 -- step 6 by factors

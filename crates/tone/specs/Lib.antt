@@ -1,3 +1,4 @@
 pub mod Levels
 pub mod Claims
 pub mod Factors
+pub mod ScaledTables

@@ -1,9 +1,10 @@
 // Steps 4 and 5: scaled luminance and display luminance.
 ghost use mathlib.Core.Path.{_≡_};
 ghost use Prim.Native.Nat.{_*_, _^_, _≤_, _<_};
-ghost use Rattle.number.proofs.Laws.{_over_, unit, storedOf};
+ghost use Rattle.number.proofs.Laws.{_over_, IsMantissa, unit, storedOf};
 ghost use Rattle.average.specs.Averages.{IsStoredAverage};
 ghost use Rattle.tone.specs.Levels.{IsKey, scaledOf, IsScaled, reinhard, displayOf};
+ghost use Rattle.tone.specs.ScaledTables.{scaledCode, IsScaledTable};
 ghost use Rattle.luminance.specs.Pixels.{IsLuminance};
 use luminance::ratio::stored_ratio;
 use number::ratio::Stored;
@@ -66,10 +67,45 @@ fn display_luminance(scaled: Stored) -> Stored
     divided(2 * (scaled.mantissa as u64) + 1, scaled.exponent as u64)
 }
 
-// Steps 4 and 5: the display luminance of a pixel's luminance under a key and an average.
-pub fn display(key: u64, luminance: Stored, average: Stored) -> Stored
-    requires { ⌜ IsKey key × IsLuminance luminance × IsStoredAverage average ⌝ }
+// The exponent of the luminances whose scaled luminances stand in a table.
+const TABLE_EXPONENT: u8 = 128;
+
+// 256 times the exponent plus the mantissa of the scaled luminance of (128, M).
+fn scaled_code(key: u64, mantissa: u8, average: Stored) -> u16
+    requires { ⌜ IsKey key × IsMantissa mantissa × IsStoredAverage average ⌝ }
+    ensures { λ r. ⌜ r ≡ scaledCode key average mantissa ⌝ }
+{
+    let luminance = Stored {
+        exponent: TABLE_EXPONENT,
+        mantissa: mantissa,
+    };
+    let scaled = scaled_luminance(key, luminance, average);
+    256 * (scaled.exponent as u16) + scaled.mantissa as u16
+}
+
+// The codes of the mantissas 128 to 255, at M - 128.
+pub fn scaled_table(key: u64, average: Stored) -> [u16; 128]
+    requires { ⌜ IsKey key × IsStoredAverage average ⌝ }
+    ensures { λ r. ⌜ IsScaledTable key average r ⌝ }
+{
+    let mut codes = [0; 128];
+    let mut k: usize = 0;
+    while k < 128 {
+        codes[k] = scaled_code(key, (128 + k) as u8, average);
+        k += 1;
+    }
+    codes
+}
+
+// Steps 4 and 5: the display luminance of a pixel's luminance under the key and the average of a table. A power of two moves only the
+// exponent of what is stored, so the scaled luminance of (E, M) is that of (128, M) with E - 128 added to its exponent.
+pub fn display_by(codes: &[u16; 128], key: u64, luminance: Stored, average: Stored) -> Stored
+    requires { ⌜ IsScaledTable key average (now codes) × IsKey key × IsLuminance luminance × IsStoredAverage average ⌝ }
     ensures { λ r. ⌜ r ≡ displayOf reinhard (scaledOf key luminance average) ⌝ }
 {
-    display_luminance(scaled_luminance(key, luminance, average))
+    let code = codes[(luminance.mantissa - 128) as usize];
+    display_luminance(Stored {
+        exponent: (code / 256 + luminance.exponent as u16 - TABLE_EXPONENT as u16) as u8,
+        mantissa: (code % 256) as u8,
+    })
 }

@@ -20,11 +20,11 @@ lit c = let pre = c .before .before .pre in not-unlit _ _ _ (pre .4) _ (pre .3 .
 luminance : (c : tie.Else1) → IsLuminance (storedAt (c .before .before .args .index))
 luminance c = is-luminance (lit c) (c .before .before .pre .3)
 
-display-requires : tie.Need-display-requires
-display-requires c κs =
+display-by-requires : tie.Need-display-by-requires
+display-by-requires c κs =
     let e = c .before in
     let pre = e .before .before .pre in
-    (pre .1, rw (c .stored-at .ensures) (luminance e), pre .2)
+    (pre .5, pre .1, rw (c .stored-at .ensures) (luminance e), pre .2)
 
 factor-requires : tie.Need-factor-requires
 factor-requires c κs =
@@ -33,7 +33,7 @@ factor-requires c κs =
     let pre = e .before .before .pre in
     let y = luminance e in (
       pre .0,
-      rw (c .display .ensures, s .stored-at .ensures) (display-mantissa _ _ _ (pre .1) y (pre .2)),
+      rw (c .display-by .ensures, s .stored-at .ensures) (display-mantissa _ _ _ (pre .1) y (pre .2)),
       rw (s .stored-at .ensures) (y .mantissa),
     )
 
@@ -43,12 +43,12 @@ returns-2 c =
     let s = d .before in
     let e = s .before in
     let pre = e .before .before .pre in
-    let made = (rw (d .display .ensures, s .stored-at .ensures) at (c .factor .ensures)) ∙ sym (factor-lit (lit e) _ _) in
+    let made = (rw (d .display-by .ensures, s .stored-at .ensures) at (c .factor .ensures)) ∙ sym (factor-lit (lit e) _ _) in
     (made, with-entry _ _ _ (pre .4) _ (pre .3 .small) (lit e) made)
 
 pub factor-at-spec : {M : Type 1} → statement M
 factor-at-spec =
     tie.close
     (tie.spec
-    (λ c. search needs) (λ c. search needs) returns (λ c κs. search needs) display-requires factor-requires (λ c. search needs)
+    (λ c. search needs) (λ c. search needs) returns (λ c κs. search needs) display-by-requires factor-requires (λ c. search needs)
     (λ c. search needs) returns-2)

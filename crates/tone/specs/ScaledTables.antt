@@ -1,0 +1,18 @@
+-- Step 4 by a table: the scaled luminances of the luminances with exponent 128, under one key and average. Assumes nothing.
+use mathlib.Core.Path.{_≡_}
+use mathlib.Core.List.{List}
+use Prim.Native.Nat.{ℕ, _+_, _*_, _<_}
+use lib.ListN.{getD}
+use Rattle.number.specs.declared.ratio.Stored.{Stored}
+use Rattle.tone.specs.Levels.{scaledOf}
+
+abbrev pub withExponent128 : (M : ℕ) → Stored
+withExponent128 M = record { exponent = 128; mantissa = M }
+
+-- 256 times the exponent plus the mantissa of the scaled luminance of (128, M)
+unfoldable pub scaledCode : (K : ℕ) (average : Stored) (M : ℕ) → ℕ
+scaledCode K average M =
+    256 * scaledOf K (withExponent128 M) average .exponent + scaledOf K (withExponent128 M) average .mantissa
+
+pub record IsScaledTable (K : ℕ) (average : Stored) (entries : List ℕ) : Type 0 where
+  pub entry : (k : ℕ) → k < 128 → getD entries k 0 ≡ scaledCode K average (128 + k)
