@@ -52,8 +52,8 @@ fn factor_at(
     index: usize,
     factors: &mut [u64; 15232],
 ) -> u64
-    requires { ⌜ IsReciprocalTable (now reciprocals) × IsKey key × IsStoredAverage average × IsIndex index × IsFactorTable key average (now factors)
-        × IsScaledTable key average (now scaled) ⌝ }
+    requires { ⌜ IsReciprocalTable (now reciprocals) × IsKey key × IsStoredAverage average × IsIndex index
+        × IsFactorTable key average (now factors) × IsScaledTable key average (now scaled) ⌝ }
     ensures factor { λ r. ⌜ r ≡ factorUnder key average index ⌝ }
     ensures table { λ _. ⌜ IsFactorTable key average (now (factors .exit)) ⌝ }
 {

@@ -37,8 +37,8 @@ loop-holds c =
 
 -- the index that was read is that of the pixel
 index : (c : tie.After-index-in Inv-loop μ-loop)
-    → let t = c .before .before .before in
-    c .index-in .result ≡ pixelIndex (pixelAt (t .before .before .before .before .before .before .before .before .args .words .now) (t .before .loop .p))
+    → let t = c .before .before .before in let s = t .before .before .before .before .before .before .before .before in
+    c .index-in .result ≡ pixelIndex (pixelAt (s .args .words .now) (t .before .loop .p))
 index c =
     let t = c .before .before .before in
     c .index-in .ensures ∙ t .before .loop .inv .1 .0 .index (t .before .loop .p) (omega arith) (t .loop-test .taken)
@@ -104,8 +104,8 @@ pub fill-levels-spec : {M : Type 1} → statement M
 fill-levels-spec =
     tie.close
     (tie.spec
-    Inv-loop μ-loop (λ c κs. search needs) (λ c κs. search needs) (λ c κs. search needs) (λ c κs. search needs) loop-holds (λ c. omega arith)
-    (λ c. omega arith) (λ c. omega arith) (λ c. omega arith) (λ c κs. search needs) factor-at-requires (λ c. omega arith)
+    Inv-loop μ-loop (λ c κs. search needs) (λ c κs. search needs) (λ c κs. search needs) (λ c κs. search needs) loop-holds
+    (λ c. omega arith) (λ c. omega arith) (λ c. omega arith) (λ c. omega arith) (λ c κs. search needs) factor-at-requires (λ c. omega arith)
     (λ c. omega arith) (λ c. omega arith) (λ c. omega arith) (λ c. omega arith) (λ c. omega arith) (λ c. omega arith)
     (λ c. omega arith) pixel-levels-requires (λ c κs. omega arith) add-p (λ c. search needs) loop-again
     (λ c. search needs) returns)
