@@ -1,6 +1,6 @@
 -- Laws of the channel words of a strip. Assumes nothing.
 use Prim.Native.Nat.{ℕ, zero, suc, _+_, _-_, _*_, _/_, _%_, _^_, _<_, _≤_}
-use mathlib.Core.Path.{_≡_, refl, sym, ap, _∙_}
+use mathlib.Core.Path.{_≡_, refl, sym, ap, subst, _∙_}
 use mathlib.Core.List.{List, [], _∷_, map}
 use native.Mathlib.Decide.{decLt}
 use native.Mathlib.Nat.{add-sub-cancel-left, le-refl}
@@ -24,7 +24,7 @@ use Rattle.word.proofs.Decoding.{holds, is-word}
 use Rattle.word.proofs.Pixels.{word-channel}
 use Rattle.word.proofs.Walks.{checking, checking-all, checking-next, checking-done}
 use Rattle.strip.specs.Checks.{headerFields, bodyPart, decodedBody}
-use Rattle.strip.specs.Holding.{NoFault, HoldsKind, AllHold}
+use Rattle.strip.specs.Holding.{NoFault, HoldsKind, AllHold, QuartersHold}
 use Rattle.strip.specs.Reading.{stripCodes, stripPixels}
 
 -- ---- one word
@@ -91,6 +91,38 @@ module _ (ws : List ℕ) (i j : ℕ) (so-far : AllHold ws i j) where
   held-next e = held-append (j + 1) (record { held = λ k l m. let q : k ≡ j = omega arith in rw q e })
 
 -- where all hold, none is refused
+-- to the same end
+pub held-until : {ws : List ℕ} {i j n : ℕ} → AllHold ws i j → j ≡ n → AllHold ws i n
+held-until {ws} {i} h e = subst (AllHold ws i) e h
+
+-- the quarters begun, gone on with, and one behind the other
+pub no-quarters : (ws : List ℕ) (quarter : ℕ) → QuartersHold ws quarter 0 0
+no-quarters ws quarter =
+    record {
+      first = none-held _ _ _ (le-refl _);
+      second = none-held _ _ _ (le-refl _);
+      third = none-held _ _ _ (le-refl _);
+      fourth = none-held _ _ _ (le-refl _);
+    }
+
+pub quarters-append : (ws : List ℕ) (quarter i j n : ℕ) → QuartersHold ws quarter i j → QuartersHold ws quarter j n
+    → QuartersHold ws quarter i n
+quarters-append ws quarter i j n h k =
+    record {
+      first = held-append _ _ _ (h .first) _ (k .first);
+      second = held-append _ _ _ (h .second) _ (k .second);
+      third = held-append _ _ _ (h .third) _ (k .third);
+      fourth = held-append _ _ _ (h .fourth) _ (k .fourth);
+    }
+
+pub quarters-whole : (ws : List ℕ) (quarter j : ℕ) → QuartersHold ws quarter 0 j → j ≡ quarter → AllHold ws 0 (4 * quarter)
+quarters-whole ws q j k e =
+    let h = subst (QuartersHold ws q 0) e k in
+    let one : AllHold ws 0 (q + 0) = held-until (h .first) (omega arith) in
+    let two : AllHold ws 0 (2 * q + 0) = held-until (held-append ws 0 (q + 0) one (q + q) (h .second)) (omega arith) in
+    let three : AllHold ws 0 (3 * q + 0) = held-until (held-append ws 0 (2 * q + 0) two (2 * q + q) (h .third)) (omega arith) in
+    held-until (held-append ws 0 (3 * q + 0) three (3 * q + q) (h .fourth)) (omega arith)
+
 pub held-accepted : (ws : List ℕ) → AllHold ws 0 (length ws) → firstRefusal (placed decodeWord 2 0 ws) ≡ Accepted
 held-accepted ws h = sym (checking-done decodeWord 2 ws (length ws) (go (length ws) (le-refl _)) (le-refl _))
   where

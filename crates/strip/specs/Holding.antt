@@ -1,5 +1,5 @@
 -- Words that hold a channel of their kind. Assumes nothing.
-use Prim.Native.Nat.{ℕ, _+_, _/_, _%_, _<_, _≤_}
+use Prim.Native.Nat.{ℕ, _+_, _*_, _/_, _%_, _<_, _≤_}
 use mathlib.Core.Path.{_≡_}
 use mathlib.Core.List.{List}
 use lib.ListN.{length, getD}
@@ -21,6 +21,13 @@ pub record HoldsKind (black w : ℕ) : Type 0 where
 -- each word from number i on, up to j, holds its channel
 pub record AllHold (ws : List ℕ) (i j : ℕ) : Type 0 where
   pub held : (k : ℕ) → i ≤ k → k < j → decodeWord k (getD ws k 0) ≡ Holds (wordChannel (getD ws k 0))
+
+-- the same of each of four quarters of the words, their numbers counted from where the quarter begins
+pub record QuartersHold (ws : List ℕ) (quarter i j : ℕ) : Type 0 where
+  pub first : AllHold ws i j
+  pub second : AllHold ws (quarter + i) (quarter + j)
+  pub third : AllHold ws (2 * quarter + i) (2 * quarter + j)
+  pub fourth : AllHold ws (3 * quarter + i) (3 * quarter + j)
 
 -- a block of whole pixels within the words, and its kinds
 pub record BlockWithin (kinds : List ℕ) (start : ℕ) (ws : List ℕ) : Type 0 where

@@ -1,13 +1,14 @@
 // The checks of a strip, in their order.
 ghost use mathlib.Core.Path.{_≡_};
 ghost use mathlib.Core.Bool.{true};
-ghost use Prim.Native.Nat.{_+_};
+ghost use Prim.Native.Nat.{_+_, _*_, _%_, _≤_, _<_};
 ghost use lib.ListN.{length};
 ghost use Rattle.refusal.specs.declared.Verdict.{Verdict};
 ghost use Rattle.word.specs.Placing.{placed, firstRefusal};
 ghost use Rattle.word.specs.Fields.{decodeWord};
+ghost use Rattle.word.specs.Kinds.{IsKinds};
 ghost use Rattle.strip.specs.Checks.{checkHead, checkBody, checkStrip, checkOutput, checkRow};
-ghost use Rattle.strip.specs.Holding.{NoFault, HoldsKind, AllHold, BlockWithin};
+ghost use Rattle.strip.specs.Holding.{QuartersHold, NoFault, HoldsKind, AllHold, BlockWithin};
 use number::channel::Decoded;
 use refusal::Refusal;
 use refusal::Verdict;
@@ -107,19 +108,38 @@ fn rest_holds(words: &[u32], from: usize) -> bool
     true
 }
 
-// True only where every word holds a channel of its kind: whole blocks, then the rest.
+// True only where the block that begins at `start` holds in each of four quarters of the words.
+fn quarters_hold(kinds: &[u32], words: &[u32], quarter: usize, start: usize) -> bool
+    requires { ⌜ IsKinds (now kinds) × (start % 3 ≡ 0) × (quarter % 3 ≡ 0) × (start + 48 ≤ quarter) × (4 * quarter ≤ length (now words)) ⌝ }
+    ensures { λ r. ⌜ (r ≡ true → QuartersHold (now (words .entry)) quarter start (start + 48)) ⌝ }
+{
+    if !block_holds(kinds, words, start) {
+        return false;
+    }
+    if !block_holds(kinds, words, quarter + start) {
+        return false;
+    }
+    if !block_holds(kinds, words, 2 * quarter + start) {
+        return false;
+    }
+    block_holds(kinds, words, 3 * quarter + start)
+}
+
+// True only where every word holds a channel of its kind: whole blocks, then the rest. Four blocks are read at a time, far apart, since
+// memory then answers sooner than for one row of words.
 fn all_hold(words: &[u32]) -> bool
     ensures { λ r. ⌜ (r ≡ true → firstRefusal (placed decodeWord 2 0 (now (words .entry))) ≡ Verdict.Accepted) ⌝ }
 {
     let kinds = block_kinds();
+    let quarter = words.len() / 192 * BLOCK;
     let mut start: usize = 0;
-    while BLOCK <= words.len() - start {
-        if !block_holds(&kinds, words, start) {
+    while start < quarter {
+        if !quarters_hold(&kinds, words, quarter, start) {
             return false;
         }
         start += BLOCK;
     }
-    rest_holds(words, start)
+    rest_holds(words, 4 * quarter)
 }
 
 // The first word that is no channel of its kind ends the walk. The first word is that of channel 0, at BODY_START.
