@@ -1,5 +1,5 @@
 -- The factors of a page's luminances, and the levels by them. Assumes nothing.
-use Prim.Native.Nat.{ℕ, _*_, _%_, _^_, _≤_, _<_}
+use Prim.Native.Nat.{ℕ, _*_, _^_, _<_}
 use mathlib.Core.Path.{_≡_, refl, sym, subst, _∙_}
 use mathlib.Core.Logic.{_⊎_, inl, inr, ⊎-elim}
 use mathlib.Core.List.{List}
@@ -8,9 +8,8 @@ use native.Mathlib.Decide.{ℕ-discrete}
 use native.Mathlib.Omega.{arith}
 use lib.Dec.{lit<}
 use borrow.Author.Tests.{ne-eqb}
-use lib.ListN.{length, getD, set, replicate, length-set, length-replicate, getD-replicate}
+use lib.ListN.{getD, set, replicate, length-set, length-replicate, getD-replicate}
 use lib.Seq.{getD-set-same, getD-set-other}
-use Rattle.number.proofs.Laws.{IsMantissa}
 use Rattle.number.specs.declared.channel.Pixel.{Pixel}
 use Rattle.number.specs.declared.ratio.Stored.{Stored}
 use Rattle.luminance.specs.declared.pixel.Luminance.{Luminance}
@@ -26,7 +25,6 @@ use Rattle.page.specs.Indices.{luminanceAt, InRange, IsIndex, pixelIndex
 use Rattle.page.specs.FactorTables.{unlitFactor, factorUnder, IsFactorTable, LevelsBy}
 use Rattle.luminance.proofs.Laws.{luminance-range, index-stored, index-range}
 use Rattle.tone.proofs.Laws.{factor-most, display-mantissa}
-use Rattle.page.proofs.Indices.{luminance-at, is-index}
 
 -- ---- index 0, and any other
 

@@ -1,6 +1,6 @@
 -- The indices of luminances, and how they stand in an output. Assumes nothing.
-use Prim.Native.Nat.{ℕ, zero, suc, _+_, _*_, _/_, _%_, _<_}
-use mathlib.Core.Path.{_≡_, refl, sym, subst, ap, _∙_}
+use Prim.Native.Nat.{ℕ, zero, suc, _+_, _*_, _/_, _<_}
+use mathlib.Core.Path.{_≡_, refl, ap, _∙_}
 use mathlib.Core.List.{List, [], _∷_, _++_, map}
 use native.Mathlib.Omega.{arith}
 use borrow.Author.Tests.{ne-eqb}
@@ -19,7 +19,7 @@ use Rattle.strip.specs.Output.{onto}
 use Rattle.luminance.specs.declared.pixel.Luminance.{Luminance}
 use Rattle.luminance.specs.declared.pixel.Luminance.the-variants.{Unlit, Lit}
 use Rattle.luminance.specs.Codes.{indexOf, indexCount}
-use Rattle.luminance.specs.Pixels.{IsPixel, luminanceOf, IsLuminance}
+use Rattle.luminance.specs.Pixels.{IsPixel, luminanceOf}
 use Rattle.luminance.proofs.Laws.{luminance-range, index-stored, index-range}
 use Rattle.page.specs.declared.levels.Levels.{Levels}
 use Rattle.page.specs.Mapping.{levelBytes}

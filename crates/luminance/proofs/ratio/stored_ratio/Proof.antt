@@ -1,9 +1,8 @@
 -- `luminance::ratio::stored_ratio` meets its contract. Assumes nothing.
 use borrow.Author.Needs.{needs}
-use mathlib.Core.Path.{_≡_, ap₂}
+use mathlib.Core.Path.{ap₂}
 use Prim.Native.Nat.{ℕ}
 use native.Mathlib.Omega.{arith}
-use Rattle.number.specs.declared.ratio.Stored.{Stored}
 use Rattle.luminance.proofs.ratio.stored_ratio.Statement.{statement}
 use Rattle.luminance.proofs.ratio.stored_ratio.Tie as tie
 

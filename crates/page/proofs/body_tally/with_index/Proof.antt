@@ -1,6 +1,5 @@
 -- `page::body_tally::with_index` meets its contract. Assumes nothing.
 use borrow.Author.Needs.{needs}
-use mathlib.Core.Path.{_∙_}
 use Rattle.page.proofs.Factors.{at-unlit, at-lit, is-luminance}
 use Rattle.page.proofs.body_tally.with_index.Statement.{statement}
 use Rattle.page.proofs.body_tally.with_index.Tie as tie
