@@ -40,8 +40,17 @@ index-stored y h = ap₂ (λ (x m : ℕ). record { exponent = x; mantissa = m })
 pub index-range : (y : Stored) → IsLuminance y → (128 ≤ indexOf (Luminance.Lit y)) × (indexOf (Luminance.Lit y) < indexCount)
 index-range y h = (omega arith, omega arith)
 
--- ---- a hundredth of a number s that is cut to the digits t
+-- ---- a hundredth of a number s
 
+-- in units, times 2^e
+scaled-stored : (s e j M E : ℕ) → E + 9 ≡ e + j → Scales (s over 100) 0 j M
+    → storedOf (s * 2 ^ e over 100 * unit) ≡ record { exponent = E; mantissa = M }
+scaled-stored s e j M E h m =
+    stored-as
+    (shut (λ (u : ℕ). Stores (s * 2 ^ e over 100 * u) E M) (powers-into e 137 (rescale m (omega arith))))
+    (record { cross = refl }) (mul-pos {m = 100} (lit< tt) unit-pos)
+
+-- where s is cut to the digits t
 module _ {s t k : ℕ} (c : IsCut s t k) where
   -- all numbers that are cut to t lie in one cell
   scaled : (i M : ℕ) → 100 * 2 ^ i < 2 * t → M ≤ 255 → M * (100 * 2 ^ i) ≤ 256 * t → 256 * (t + 1) ≤ (M + 1) * (100 * 2 ^ i)
@@ -52,14 +61,6 @@ module _ {s t k : ℕ} (c : IsCut s t k) where
             (cell (omega (arith, mul-lt-mul-of-pos-right above (pow-pos k))) most
             (omega (arith, mul-le-mul-right (2 ^ k) floor)) (omega (arith, mul-le-mul-right (2 ^ k) ceiling)));
       }
-
-  -- in units, times 2^e
-  at : (e i M E : ℕ) → E + 9 ≡ e + k + i → Scales (s over 100) 0 (k + i) M
-      → storedOf (s * 2 ^ e over 100 * unit) ≡ record { exponent = E; mantissa = M }
-  at e i M E h m =
-      stored-as
-      (shut (λ (u : ℕ). Stores (s * 2 ^ e over 100 * u) E M) (powers-into e 137 (rescale m (omega arith))))
-      (record { cross = refl }) (mul-pos {m = 100} (lit< tt) unit-pos)
 
   -- The digits 6400 are left out: a hundred times a power of two has them, and so have numbers just above.
   cut-index : (e d : ℕ) → d + 69 ≡ k + e → (t ≡ 6400 → ⊥)
@@ -78,11 +79,11 @@ module _ {s t k : ℕ} (c : IsCut s t k) where
           let below : t < 6400 = lt-of-not-le (λ g. other (omega arith)) in
           low (t / 25) (omega arith)
           ∙ sym (ap (λ (y : Stored). indexOf (Luminance.Lit y))
-          (at e 6 (t / 25) (d + 66) (omega arith) (scaled 6 (t / 25) (omega arith) (omega arith) (omega arith) (omega arith))))
+          (scaled-stored s e (k + 6) (t / 25) (d + 66) (omega arith) (scaled 6 (t / 25) (omega arith) (omega arith) (omega arith) (omega arith))))
       by (no l) =
           high (t / 25) (omega arith)
           ∙ sym (ap (λ (y : Stored). indexOf (Luminance.Lit y))
-          (at e 7 (t / 25 / 2) (d + 67) (omega arith)
+          (scaled-stored s e (k + 7) (t / 25 / 2) (d + 67) (omega arith)
           (scaled 7 (t / 25 / 2) (omega arith) (omega arith) (omega arith) (omega arith))))
 
 -- ---- the sum of three channels
@@ -110,18 +111,18 @@ cut-black {s} {t} {k} c e = by (decLe k 17) (decLe 19 k)
     by (no g) (no h) = let same : k ≡ 18 = omega arith in omega (arith, rw same at (c .low), rw same at (c .high))
 
 -- the sum times 2^e, where e moves each weight to the exponent of its channel
-gather : (r g b X Z E E′ E″ e s : ℕ) → s ≡ r * (27 * 2 ^ X) + g * (67 * 2 ^ 24) + b * (6 * 2 ^ Z)
-    → X + e ≡ E → 24 + e ≡ E′ → Z + e ≡ E″
+gather : (r g b X Y Z E E′ E″ e s : ℕ) → s ≡ r * (27 * 2 ^ X) + g * (67 * 2 ^ Y) + b * (6 * 2 ^ Z)
+    → X + e ≡ E → Y + e ≡ E′ → Z + e ≡ E″
     → s * 2 ^ e ≡ 27 * (r * 2 ^ E) + 67 * (g * 2 ^ E′) + 6 * (b * 2 ^ E″)
-gather r g b X Z E E′ E″ e s sum x y z =
-    total (2 ^ X) (2 ^ Z) (2 ^ e) (2 ^ E) (2 ^ E′) (2 ^ E″) sum (raise X E x) (raise 24 E′ y) (raise Z E″ z)
+gather r g b X Y Z E E′ E″ e s sum x y z =
+    total (2 ^ X) (2 ^ Y) (2 ^ Z) (2 ^ e) (2 ^ E) (2 ^ E′) (2 ^ E″) sum (raise X E x) (raise Y E′ y) (raise Z E″ z)
   where
     raise : (i j : ℕ) → i + e ≡ j → 2 ^ i * 2 ^ e ≡ 2 ^ j
     raise i j h = sym (pow-add 2 i e) ∙ ap (λ (z : ℕ). 2 ^ z) h
 
-    total : (x z u p q v : ℕ) → s ≡ r * (27 * x) + g * (67 * 2 ^ 24) + b * (6 * z) → x * u ≡ p → 2 ^ 24 * u ≡ q → z * u ≡ v
+    total : (x y z u p q v : ℕ) → s ≡ r * (27 * x) + g * (67 * y) + b * (6 * z) → x * u ≡ p → y * u ≡ q → z * u ≡ v
         → s * u ≡ 27 * (r * p) + 67 * (g * q) + 6 * (b * v)
-    total x z u p q v sum h k l =
+    total x y z u p q v sum h k l =
         omega (
           arith,
           ap (λ (n : ℕ). n * u) sum,
@@ -130,19 +131,12 @@ gather r g b X Z E E′ E″ e s sum x y z =
           ap (λ (n : ℕ). b * n) l,
         )
 
--- a pixel by the codes m, n and l, whose weights are the entries x, 24 and z of their tables
-module _ (p : Pixel) {m n l x z s t k : ℕ} (red : Coded m (p .red)) (green : Coded n (p .green)) (blue : Coded l (p .blue))
-    (rx : (x < 48) × (x + n / 256 ≡ m / 256 + 24)) (bz : (z < 48) × (z + n / 256 ≡ l / 256 + 24))
-    (sum : s ≡ (2 * (m % 256) + 1) * (27 * 2 ^ x) + (2 * (n % 256) + 1) * (67 * 2 ^ 24) + (2 * (l % 256) + 1) * (6 * 2 ^ z))
-    (c : IsCut s t k) (other : t ≡ 6400 → ⊥) where
-  -- three black channels have the digits 6400
-  all-black : m ≡ 0 → n ≡ 0 → l ≡ 0 → ⊥
-  all-black h h′ h″ =
-      let at-24 : x ≡ 24 = omega arith in
-      let at-24′ : z ≡ 24 = omega arith in
-      other (cut-black c (sum ∙ rw (at-24, at-24′, h, h′, h″)))
-
-  -- and a black one is too far from a lit one
+-- a pixel by the codes m, n and l, not all black, whose weights stand at the places x, y and z
+module _ (p : Pixel) {m n l x z s : ℕ} (y : ℕ) (red : Coded m (p .red)) (green : Coded n (p .green)) (blue : Coded l (p .blue))
+    (rx : (x < 48) × (x + n / 256 ≡ m / 256 + y)) (bz : (z < 48) × (z + n / 256 ≡ l / 256 + y)) (low : y ≤ 24)
+    (sum : s ≡ (2 * (m % 256) + 1) * (27 * 2 ^ x) + (2 * (n % 256) + 1) * (67 * 2 ^ y) + (2 * (l % 256) + 1) * (6 * 2 ^ z))
+    (some : m ≡ 0 → n ≡ 0 → l ≡ 0 → ⊥) where
+  -- a black channel is too far from a lit one
   all-lit : LitAt m (p .red) × LitAt n (p .green) × LitAt l (p .blue)
   all-lit = by (black-or-lit m (p .red) red) (black-or-lit n (p .green) green) (black-or-lit l (p .blue) blue)
     where
@@ -153,30 +147,123 @@ module _ (p : Pixel) {m n l x z s t k : ℕ} (red : Coded m (p .red)) (green : C
       by (inr r) (inl g) _ = absurd (omega (arith, r .1 .least))
       by (inl r) (inr g) _ = absurd (omega (arith, g .1 .least))
       by (inl r) (inl g) (inr b) = absurd (omega (arith, b .1 .least))
-      by (inl r) (inl g) (inl b) = absurd (all-black r g b)
+      by (inl r) (inl g) (inl b) = absurd (some r g b)
+
+  -- the index of the sum's hundredth is that of the luminance
+  sum-index : indexOf (Luminance.Lit (storedOf (s * 2 ^ (n / 256 - y) over 100 * unit))) ≡ indexOf (luminanceOf p)
+  sum-index =
+      let least = all-lit .1 .1 .least in
+      ap (λ (n : ℕ). indexOf (Luminance.Lit (storedOf (n over 100 * unit))))
+      (gather (2 * (m % 256) + 1) (2 * (n % 256) + 1) (2 * (l % 256) + 1) x y z (m / 256) (n / 256) (l / 256) (n / 256 - y) s sum
+      (omega (arith, least)) (omega (arith, least)) (omega (arith, least))
+      ∙ sym (rw (all-lit .0 .0, all-lit .1 .0, all-lit .2 .0)))
+      ∙ ap indexOf (sym (red-lit p (rw (all-lit .0 .0))))
+
+-- with weights from tables, by the first digits of the sum
+module _ (p : Pixel) {m n l x z s t k : ℕ} (red : Coded m (p .red)) (green : Coded n (p .green)) (blue : Coded l (p .blue))
+    (rx : (x < 48) × (x + n / 256 ≡ m / 256 + 24)) (bz : (z < 48) × (z + n / 256 ≡ l / 256 + 24))
+    (sum : s ≡ (2 * (m % 256) + 1) * (27 * 2 ^ x) + (2 * (n % 256) + 1) * (67 * 2 ^ 24) + (2 * (l % 256) + 1) * (6 * 2 ^ z))
+    (c : IsCut s t k) (other : t ≡ 6400 → ⊥) where
+  -- three black channels have the digits 6400
+  some-lit : m ≡ 0 → n ≡ 0 → l ≡ 0 → ⊥
+  some-lit h h′ h″ =
+      let at-24 : x ≡ 24 = omega arith in
+      let at-24′ : z ≡ 24 = omega arith in
+      other (cut-black c (sum ∙ rw (at-24, at-24′, h, h′, h″)))
+
+  green-lit : LitAt n (p .green)
+  green-lit = all-lit p 24 red green blue rx bz (omega arith) sum some-lit .1
 
   fits : 93 ≤ k + n / 256
   fits = by (decLe 21 k)
     where
       by : Dec (21 ≤ k) → 93 ≤ k + n / 256
-      by (yes h) = omega (arith, all-lit .1 .1 .least)
+      by (yes h) = omega (arith, green-lit .1 .least)
       by (no h) =
           absurd (omega (
             arith,
             sum,
             c .high,
-            all-lit .1 .1 .mantissa .least,
+            green-lit .1 .mantissa .least,
             mul-le-mul {n₂ = 8192} {m₂ = 2 ^ 20} (c .most) (pow-mono {i = k} {j = 20} (omega arith)),
           ))
 
   pub pixel-index : (93 ≤ k + n / 256) × (128 * (k + n / 256 - 93) + min (t / 25 - 128) (t / 25 / 2) ≡ indexOf (luminanceOf p))
-  pixel-index =
-      let low = all-lit .1 .1 .least in (
-        fits,
-        cut-index c (n / 256 - 24) (k + n / 256 - 93) (omega (arith, fits, low)) other
-            ∙ ap (λ (n : ℕ). indexOf (Luminance.Lit (storedOf (n over 100 * unit))))
-            (gather (2 * (m % 256) + 1) (2 * (n % 256) + 1) (2 * (l % 256) + 1) x z (m / 256) (n / 256) (l / 256) (n / 256 - 24) s sum
-            (omega (arith, low)) (omega (arith, low)) (omega (arith, low))
-            ∙ sym (rw (all-lit .0 .0, all-lit .1 .0, all-lit .2 .0)))
-            ∙ ap indexOf (sym (red-lit p (rw (all-lit .0 .0)))),
-      )
+  pixel-index = (
+    fits,
+    cut-index c (n / 256 - 24) (k + n / 256 - 93) (omega (arith, fits, green-lit .1 .least)) other
+        ∙ sum-index p 24 red green blue rx bz (omega arith) sum some-lit,
+  )
+
+-- ---- channels near one another, by the quotient of the sum
+
+-- of a quotient from 128 on, j octaves up with the mantissa M
+abbrev pub octaves : (q : ℕ) → ℕ
+octaves q = min (min q (q / 2 + 128)) (min (q / 4 + 256) (q / 8 + 384))
+
+record InOctave (q j M : ℕ) : Type 0 where
+  pub index : octaves q ≡ 128 * j + M
+  pub floor : M * 2 ^ j ≤ q
+  pub ceiling : q < (M + 1) * 2 ^ j
+  pub least : 128 ≤ M
+  pub most : M ≤ 255
+
+record Octave (q : ℕ) : Type 0 where
+  pub j : ℕ
+  pub M : ℕ
+  pub within : InOctave q j M
+
+octave-of : (q : ℕ) → 128 ≤ q → q < 2048 → Octave q
+octave-of q low high = by (decLe 256 q) (decLe 512 q) (decLe 1024 q)
+  where
+    in-octave : (j M : ℕ) → octaves q ≡ 128 * j + M → M * 2 ^ j ≤ q → q < (M + 1) * 2 ^ j → 128 ≤ M → M ≤ 255 → Octave q
+    in-octave j M index floor ceiling least most =
+        record { j = j; M = M; within = record { index = index; floor = floor; ceiling = ceiling; least = least; most = most } }
+
+    by : Dec (256 ≤ q) → Dec (512 ≤ q) → Dec (1024 ≤ q) → Octave q
+    by (no a) _ _ = in-octave 0 q (omega arith) (omega arith) (omega arith) (omega arith) (omega arith)
+    by (yes a) (no b) _ = in-octave 1 (q / 2) (omega arith) (omega arith) (omega arith) (omega arith) (omega arith)
+    by (yes a) (yes b) (no c) = in-octave 2 (q / 4) (omega arith) (omega arith) (omega arith) (omega arith) (omega arith)
+    by (yes a) (yes b) (yes c) = in-octave 3 (q / 8) (omega arith) (omega arith) (omega arith) (omega arith) (omega arith)
+
+-- an index i that is no multiple of 128, with green's exponent E
+octave-placed : (i E j M : ℕ) → i < 2 ^ 16 → (i + 8704) % 2 ^ 16 ≡ 128 * E + (128 * j + M) → 128 ≤ M → 72 ≤ E → (i % 128 ≡ 0 → ⊥)
+    → (128 < M) × (E - 67 + 63 ≡ E - 4) × (i ≡ 128 * (E - 67 + j) + (M - 128))
+octave-placed i E j M fits e least low other = (lt-of-not-le (λ g. other (omega arith)), omega arith, omega arith)
+
+-- The mantissa 128 is left out: a hundred times a power of two seems to have it, and has the greatest of the octave below.
+octave-index : (s q e d : ℕ) → q ≡ s / 64 / 25 → d + 63 ≡ e → (o : Octave q) → 128 < o .M
+    → 128 * (d + o .j) + (o .M - 128) ≡ indexOf (Luminance.Lit (storedOf (s * 2 ^ e over 100 * unit)))
+octave-index s q e d quotient h o above =
+    let j = o .j in
+    let M = o .M in
+    let w = o .within in
+    let power = pow-add 2 12 j in
+    let half : 100 * 2 ^ (12 + j) < 2 * s = omega (arith, power, pow-pos j, w .floor, mul-le-mul-right (2 ^ j) above) in
+    let floor : M * (100 * 2 ^ (12 + j)) ≤ 256 * s = rw power (omega (arith, w .floor)) in
+    let ceiling : 256 * s < (M + 1) * (100 * 2 ^ (12 + j)) = rw power (omega (arith, w .ceiling)) in
+    ap (λ (x : ℕ). 128 * x + (M - 128)) {x = d + j} {y = d + j + 66 - 66} (omega arith)
+    ∙ sym (ap (λ (y : Stored). indexOf (Luminance.Lit y))
+    (scaled-stored s e (12 + j) M (d + j + 66) (omega arith)
+    (record { normalised = cell (omega (arith, half)) (w .most) (omega (arith, floor)) (omega (arith, ceiling)) })))
+
+module _ (p : Pixel) {m n l x z s : ℕ} (red : Coded m (p .red)) (green : Coded n (p .green)) (blue : Coded l (p .blue))
+    (rx : (x < 8) × (x + n / 256 ≡ m / 256 + 4)) (bz : (z < 8) × (z + n / 256 ≡ l / 256 + 4))
+    (sum : s ≡ (2 * (m % 256) + 1) * (27 * 2 ^ (x % 8)) + (2 * (n % 256) + 1) * (67 * 2 ^ 4) + (2 * (l % 256) + 1) * (6 * 2 ^ (z % 8)))
+    (small : s < 2048 * 1600) (lit : n / 256 ≡ 0 → ⊥) where
+  pub near-index : (i : ℕ) → i < 2 ^ 16 → (i + 8704) % 2 ^ 16 ≡ 128 * (n / 256) + octaves (s / 64 / 25) → (i % 128 ≡ 0 → ⊥)
+      → i ≡ indexOf (luminanceOf p)
+  near-index i fits e other =
+      let rx′ : (x < 48) × (x + n / 256 ≡ m / 256 + 4) = (omega arith, rx .1) in
+      let bz′ : (z < 48) × (z + n / 256 ≡ l / 256 + 4) = (omega arith, bz .1) in
+      let ex : x % 8 ≡ x = omega arith in
+      let ez : z % 8 ≡ z = omega arith in
+      let total = rw (ex, ez) at sum in
+      let some : m ≡ 0 → n ≡ 0 → l ≡ 0 → ⊥ = λ h h′ h″. lit (omega arith) in
+      let green-lit = all-lit p 4 red green blue rx′ bz′ (omega arith) total some .1 .1 in
+      let o = octave-of (s / 64 / 25) (omega (arith, sum, green-lit .mantissa .least)) (omega arith) in
+      let placed = octave-placed i (n / 256) (o .j) (o .M) fits (e ∙ ap (λ (v : ℕ). 128 * (n / 256) + v) (o .within .index)) (o .within .least)
+      (green-lit .least) other in
+      placed .2
+      ∙ octave-index s (s / 64 / 25) (n / 256 - 4) (n / 256 - 67) refl (placed .1) o (placed .0)
+      ∙ sum-index p 4 red green blue rx′ bz′ (omega arith) total some

@@ -3,9 +3,10 @@ use mathlib.Core.Path.{_≡_}
 use mathlib.Core.List.{List}
 use Prim.Native.Nat.{ℕ, _+_, _-_, _*_, _/_, _%_, _^_, _≤_, _<_}
 use lib.ListN.{getD}
-use Rattle.number.proofs.Laws.{codeChannel}
+use Rattle.number.proofs.Laws.{IsCode, codeChannel}
 use Rattle.number.specs.declared.channel.Pixel.{Pixel}
 use Rattle.number.specs.declared.ratio.Stored.{Stored}
+use Rattle.luminance.specs.Pixels.{luminanceOf}
 use Rattle.luminance.specs.declared.pixel.Luminance.{Luminance}
 use Rattle.luminance.specs.declared.pixel.Luminance.the-variants.{Unlit}
 
@@ -37,3 +38,7 @@ pub record IsCut (number digits shift : ℕ) : Type 0 where
   pub least : 4096 ≤ digits
   pub most : digits < 8192
   pub within : shift ≤ 50
+
+-- The index of a pixel's luminance, unless it is a multiple of 128.
+pub record IsNear (red green blue index : ℕ) : Type 0 where
+  pub right : IsCode red → IsCode green → IsCode blue → (index % 128 ≡ 0 → ⊥) → index ≡ indexOf (luminanceOf (codePixel red green blue))
