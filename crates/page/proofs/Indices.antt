@@ -27,7 +27,8 @@ use Rattle.page.specs.Indices.{AreCodes, luminanceAt, InRange, IsIndex, 
 use Rattle.average.specs.declared.tally.Tally.{Tally}
 use Rattle.page.specs.Tallying.{withPixel}
 use Rattle.page.proofs.Luminances.{pixel-valid}
-use Rattle.page.proofs.Walks.{tallied, tallied-next}
+use Rattle.page.specs.Parts.{tallied}
+use Rattle.page.proofs.Walks.{tallied-next}
 
 -- ---- the words of an accepted strip are channels
 

@@ -17,12 +17,10 @@ use Rattle.average.proofs.Laws.{tally-is-sum}
 use Rattle.page.specs.declared.levels.Levels.{Levels}
 use Rattle.page.specs.Tallying.{luminancesOf, withPixel}
 use Rattle.page.specs.Mapping.{levelBytes}
+use Rattle.page.specs.Parts.{tallied, filling}
 use Rattle.page.proofs.Luminances.{tally-pixel, luminances-few, pixels-valid, every-luminance}
 
 -- ---- A loop that tallies: at each turn the tally is that of the pixels so far.
-
-unfoldable pub tallied : List ℕ → (p : ℕ) → Tally
-tallied ws p = tallyOf (luminancesOf (take p (wordPixels ws)))
 
 pub tallied-none : (ws : List ℕ) → tallyOf [] ≡ tallied ws 0
 unfolding tallied luminancesOf
@@ -57,10 +55,6 @@ three t j l ls =
     let e₂ : j + 2 ≡ suc (suc j) = omega arith in
     let e₃ : j + 3 ≡ suc (suc (suc j)) = omega arith in
     rw (e₁, e₂, e₃)
-
--- the levels of the pixels from number p on
-unfoldable pub filling : (Pixel → Levels) → List ℕ → (p : ℕ) → List ℕ → List ℕ
-filling f ws p t = sets t (3 * p) (levelBytes (map f (drop p (wordPixels ws))))
 
 pub length-bytes : (ls : List Levels) → length (levelBytes ls) ≡ 3 * length ls
 length-bytes [] = refl

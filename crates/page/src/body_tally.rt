@@ -1,6 +1,6 @@
 // An accepted strip tallied, pixel by pixel; where an output is lent, it keeps each pixel's luminance for the levels.
 ghost use mathlib.Core.Path.{_≡_};
-ghost use Prim.Native.Nat.{_^_, _≤_, _<_};
+ghost use Prim.Native.Nat.{_+_, _/_, _^_, _≤_, _<_};
 ghost use lib.ListN.{length};
 ghost use Rattle.refusal.specs.declared.Verdict.{Verdict};
 ghost use Rattle.number.specs.Channels.{IsCode};
@@ -8,16 +8,20 @@ ghost use Rattle.strip.specs.Checks.{channelCount, checkStrip};
 ghost use Rattle.strip.specs.Output.{onto};
 ghost use Rattle.strip.specs.Reading.{stripPixels};
 ghost use Rattle.average.specs.Averages.{IsSum};
-ghost use Rattle.luminance.specs.Codes.{IsWeightTable, indexOf, indexCount};
+ghost use Rattle.luminance.specs.Codes.{IsWeightTable, IsNear, indexOf, indexCount};
 ghost use Rattle.luminance.specs.Pixels.{luminanceOf};
 ghost use Rattle.average.specs.Tables.{IsLogTable};
 ghost use Rattle.average.specs.Tallies.{tallyOf};
 ghost use Rattle.word.specs.Fields.{low16};
 ghost use Rattle.word.specs.Pixels.{pixelOf, wordChannel, wordPixels};
 ghost use Rattle.page.specs.Tallying.{withPixel, luminancesOf, stripLuminances};
-ghost use Rattle.page.specs.Indices.{AreCodes, luminanceAt, IsIndex, indexLevels, indexBytes};
+ghost use Rattle.page.specs.Indices.{AreCodes, luminanceAt, IsIndex, indexLevels, indexed, indexBytes};
+ghost use Rattle.page.specs.BlockIndices.{NearIndices};
+ghost use Rattle.page.specs.Parts.{tallied, filling};
 use crate::levels::Levels;
 use crate::levels::store_levels;
+use crate::near::BLOCK;
+use crate::near::near_indices;
 use average::tables::log_table;
 use average::tally::Tally;
 use average::tally::no_luminance;
@@ -29,11 +33,22 @@ use word::body::BODY_START;
 use word::header::low_half;
 use word::header::pixel_count;
 
-// The index of the luminance of a pixel's words.
-fn word_index(reds: &[u64; 48], blues: &[u64; 48], red: u32, green: u32, blue: u32) -> u64
-    requires { ⌜ IsWeightTable 27 (now reds) × IsWeightTable 6 (now blues) × IsCode (low16 red) × IsCode (low16 green) × IsCode (low16 blue) ⌝ }
+// The index of the luminance of a pixel's words: the one that is at hand, where it is worked out.
+fn word_index(
+    reds: &[u64; 48],
+    blues: &[u64; 48],
+    near: u16,
+    red: u32,
+    green: u32,
+    blue: u32,
+) -> u64
+    requires { ⌜ IsWeightTable 27 (now reds) × IsWeightTable 6 (now blues) × IsCode (low16 red) × IsCode (low16 green) × IsCode (low16 blue)
+        × IsNear (low16 red) (low16 green) (low16 blue) near ⌝ }
     ensures { λ r. ⌜ r ≡ indexOf (luminanceOf (pixelOf (wordChannel red) (wordChannel green) (wordChannel blue))) ⌝ }
 {
+    if near % 128 != 0 {
+        return near as u64;
+    }
     luminance_index(reds, blues, low_half(red), low_half(green), low_half(blue))
 }
 
@@ -60,7 +75,49 @@ fn index_levels(index: u64) -> Levels
     }
 }
 
-// The tally of channel words. In an output that has room for all of them, the index of each pixel's luminance goes into the pixel's place.
+// The tally with the pixels from number `from` on, up to `end`. In an output that has room for all of the words, the index of each pixel's
+// luminance goes into the pixel's place.
+fn index_part(
+    logs: &[u16; 128],
+    reds: &[u64; 48],
+    blues: &[u64; 48],
+    near: &[u16; 16],
+    words: &[u32],
+    from: usize,
+    end: usize,
+    before: Tally,
+    output: &mut [u8],
+) -> Tally
+    requires { ⌜ IsLogTable (now logs) × IsWeightTable 27 (now reds) × IsWeightTable 6 (now blues) × NearIndices (now words) from (now near)
+        × AreCodes (now words) × (length (now words) ≤ 2 ^ 40) × (from ≤ end) × (end ≤ from + 16) × (end ≤ length (now words) / 3)
+        × (before ≡ tallied (now words) from) ⌝ }
+    ensures tally { λ r. ⌜ r ≡ tallied (now (words .entry)) end ⌝ }
+    ensures content { λ _. ⌜ (length (now (output .exit)) ≡ length (now (output .entry)))
+        × (length (now (words .entry)) ≤ length (now (output .entry))
+        → filling indexed (now (words .entry)) end (now (output .exit)) ≡ filling indexed (now (words .entry)) from (now (output .entry))) ⌝ }
+{
+    let mut tally = before;
+    let mut p = from;
+    while p < end {
+        let at = 3 * p;
+        let index = word_index(
+            reds,
+            blues,
+            near[p - from],
+            words[at],
+            words[at + 1],
+            words[at + 2],
+        );
+        if words.len() <= output.len() {
+            store_levels(index_levels(index), at, output);
+        }
+        tally = with_index(logs, tally, index);
+        p += 1;
+    }
+    tally
+}
+
+// The tally of channel words, with the indices in an output that has room: whole blocks, then the rest.
 fn index_pixels(words: &[u32], output: &mut [u8]) -> Tally
     requires { ⌜ AreCodes (now words) × (length (now words) ≤ 2 ^ 40) ⌝ }
     ensures tally { λ r. ⌜ r ≡ tallyOf (luminancesOf (wordPixels (now (words .entry)))) ⌝ }
@@ -70,18 +127,36 @@ fn index_pixels(words: &[u32], output: &mut [u8]) -> Tally
     let reds = weight_table(27);
     let blues = weight_table(6);
     let pixels = words.len() / 3;
+    let mut near = [0u16; 16];
     let mut tally = no_luminance();
-    let mut p: usize = 0;
-    while p < pixels {
-        let at = 3 * p;
-        let index = word_index(&reds, &blues, words[at], words[at + 1], words[at + 2]);
-        if words.len() <= output.len() {
-            store_levels(index_levels(index), at, output);
-        }
-        tally = with_index(&logs, tally, index);
-        p += 1;
+    let mut from: usize = 0;
+    while BLOCK <= pixels - from {
+        near_indices(words, from, &mut near);
+        tally = index_part(
+            &logs,
+            &reds,
+            &blues,
+            &near,
+            words,
+            from,
+            from + BLOCK,
+            tally,
+            output,
+        );
+        from += BLOCK;
     }
-    tally
+    let none = [0u16; 16];
+    index_part(
+        &logs,
+        &reds,
+        &blues,
+        &none,
+        words,
+        from,
+        pixels,
+        tally,
+        output,
+    )
 }
 
 // The tally of an accepted strip.

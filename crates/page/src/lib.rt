@@ -3,4 +3,5 @@ mod body_levels;
 mod body_tally;
 mod levels;
 pub mod map;
+mod near;
 pub mod tally;

@@ -15,7 +15,8 @@ use Rattle.page.specs.Mapping.{levelsOf, levelsUnder}
 use Rattle.page.proofs.Factors.{factor-range, levels-by}
 use Rattle.page.proofs.Indices.{is-index, indices-left}
 use Rattle.page.proofs.Luminances.{pixel-valid}
-use Rattle.page.proofs.Walks.{filling, filling-all, filling-next, filling-done, levels-fit}
+use Rattle.page.specs.Parts.{filling}
+use Rattle.page.proofs.Walks.{filling-all, filling-next, filling-done, levels-fit}
 use Rattle.page.proofs.body_levels.fill_levels.Statement.{statement}
 use Rattle.page.proofs.body_levels.fill_levels.Tie as tie
 

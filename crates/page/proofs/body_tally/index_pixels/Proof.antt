@@ -1,30 +1,28 @@
--- `page::body_tally::index_pixels` meets its contract: at each turn the tally is that of the pixels so far, and the indices that are left
+-- `page::body_tally::index_pixels` meets its contract: at each turn the tally is that of the blocks so far, and the indices that are left
 -- give the whole. Assumes nothing.
 use borrow.Author.Needs.{needs}
 use Prim.Native.Nat.{_+_, _-_, _*_, _≤_}
-use mathlib.Core.Path.{_≡_, refl, ap, _∙_}
-use mathlib.Core.Logic.{⊎-elim}
+use mathlib.Core.Path.{_≡_, refl, _∙_}
 use native.Mathlib.Omega.{arith}
 use lib.ListN.{length}
 use Rattle.strip.specs.Output.{onto}
 use Rattle.strip.proofs.Outputs.{sets-front}
 use Rattle.word.specs.Pixels.{wordPixels}
-use Rattle.page.specs.Indices.{indexLevels, indexed, indexBytes}
-use Rattle.page.proofs.Indices.{is-index, tallied-index}
-use Rattle.page.proofs.Luminances.{pixel-valid}
-use Rattle.page.proofs.Walks.{tallied, tallied-none, tallied-sum, tallied-all}
-use Rattle.page.proofs.Walks.{filling, filling-all, filling-next, filling-done, levels-fit}
+use Rattle.page.specs.Indices.{indexed, indexBytes}
+use Rattle.page.specs.Parts.{tallied, filling}
+use Rattle.page.proofs.BlockIndices.{none-near}
+use Rattle.page.proofs.Walks.{tallied-none, tallied-all, filling-all, filling-done, levels-fit}
 use Rattle.page.proofs.body_tally.index_pixels.Statement.{statement}
 use Rattle.page.proofs.body_tally.index_pixels.Tie as tie
 
 abbrev Inv-loop : tie.InvT-loop
-Inv-loop words output₀ logs reds blues pixels tally₀ p₀ output tally p =
+Inv-loop words output₀ logs reds blues pixels near₀ tally₀ from₀ output near tally from =
     (length output ≡ length output₀)
-    × (length words ≤ length output₀ → filling indexed words p output ≡ onto (indexBytes (wordPixels words)) output₀)
-    × (tally ≡ tallied words p)
+    × (length words ≤ length output₀ → filling indexed words from output ≡ onto (indexBytes (wordPixels words)) output₀)
+    × (tally ≡ tallied words from) × (from ≤ pixels) × (length near ≡ 16)
 
 abbrev μ-loop : tie.MeasureT-loop
-μ-loop words output₀ logs reds blues pixels tally₀ p₀ output tally p = pixels - p
+μ-loop words output₀ logs reds blues pixels near₀ tally₀ from₀ output near tally from = pixels - from
 
 loop-holds : tie.Need-loop-holds Inv-loop μ-loop
 loop-holds c =
@@ -32,56 +30,72 @@ loop-holds c =
       refl,
       λ fits. filling-all _ ws _ ∙ sets-front (indexBytes (wordPixels ws)) _ (levels-fit _ ws fits),
       c .no-luminance .ensures ∙ tallied-none _,
+      omega arith,
+      refl,
     )
 
-word-index-requires : tie.Need-word-index-requires Inv-loop μ-loop
-word-index-requires c κs =
-    let t = c .before .before .before .before .before in
-    let tables = t .before .before .before in
-    let codes = tables .before .before .before .before .before .pre .0 .code in
-    let at = 3 * t .before .loop .p in (
-      tables .before .weight-table .ensures,
-      tables .weight-table2 .ensures,
-      codes at (omega arith),
-      codes (at + 1) (omega arith),
-      codes (at + 2) (omega arith),
+index-part-requires : tie.Need-index-part-requires Inv-loop μ-loop
+index-part-requires c κs =
+    let n = c .before .before .before .before .before .before in
+    let t = n .before .before in
+    let inv = t .before .loop .inv in
+    let b = t .before .before .before in
+    let r = b .before in
+    let l = r .before in
+    let pre = l .before .before .before .pre in (
+      l .log-table .ensures,
+      r .weight-table .ensures,
+      b .weight-table2 .ensures,
+      n .near-indices .ensures,
+      pre .0,
+      pre .1,
+      omega arith,
+      omega arith,
+      omega (arith, t .loop-test .taken),
+      inv .2,
     )
-
-index-levels-requires : tie.Need-index-levels-requires Inv-loop μ-loop
-index-levels-requires c κs = rw (c .before .word-index .ensures) (is-index _ (pixel-valid _ _ _) .small)
-
-with-index-requires : tie.Need-with-index-requires Inv-loop μ-loop
-with-index-requires c κs =
-    let i = c .before .before in
-    let t = i .before .before .before .before .before .before in
-    let logs = t .before .before .before .before .before in
-    let sums = tallied-sum _ _ (t .before .loop .inv .2) (logs .before .before .before .pre .1) (t .loop-test .taken) in
-    (logs .log-table .ensures, rw (i .word-index .ensures) (is-index _ (pixel-valid _ _ _)), sums .0, sums .1)
 
 loop-again : tie.Need-loop-again Inv-loop μ-loop
 loop-again c =
-    let i = c .before .before .before in
-    let t = i .before .before .before .before .before .before in
+    let i = c .before .before in
+    let t = i .before .before .before .before .before .before .before .before .before in
     let inv = t .before .loop .inv in
-    let going-on = c .with-index .ensures ∙ tallied-index _ _ (inv .2) (t .loop-test .taken) (i .word-index .ensures) in
-    ⊎-elim
-    (λ w.
-    let e = w .6 ∙ w .3 .ensures in
-    let next = filling-next _ _ _ (t .before .loop .output) (inv .0, inv .1 (omega (arith, w .0 .taken, inv .0))) (t .loop-test .taken)
-    (w .1 .ensures ∙ ap indexLevels (i .word-index .ensures)) in
-    (rw e (next .0), λ _. rw e (next .1), going-on))
-    (λ w. (rw (w .1) (inv .0), λ fits. absurd (omega (arith, w .0 .left, inv .0)), going-on)) (c .before .before .if1 .came)
+    let part = i .index-part .ensures in
+    (part .1 .0 ∙ inv .0, λ fits. part .1 .1 (omega (arith, fits, inv .0)) ∙ inv .1 fits, part .0, omega (arith, t .loop-test .taken), search needs)
+
+index-part-requires-2 : tie.Need-index-part-requires-2 Inv-loop μ-loop
+index-part-requires-2 c κs =
+    let t = c .before .before .before .before .before in
+    let inv = t .before .loop .inv in
+    let b = t .before .before .before in
+    let r = b .before in
+    let l = r .before in
+    let pre = l .before .before .before .pre in (
+      l .log-table .ensures,
+      r .weight-table .ensures,
+      b .weight-table2 .ensures,
+      none-near _ _,
+      pre .0,
+      pre .1,
+      inv .3,
+      omega (arith, t .loop-test .left),
+      omega arith,
+      inv .2,
+    )
 
 returns : tie.Need-returns Inv-loop μ-loop
 returns c =
-    let inv = c .before .loop .inv in
-    (tallied-all _ _ (inv .2) (c .loop-test .left), λ fits. filling-done _ _ _ _ (inv .0, inv .1 fits) (c .loop-test .left))
+    let i = c .before .before in
+    let inv = i .before .before .before .before .before .before .before .loop .inv in
+    let part = i .index-part2 .ensures in (
+      tallied-all _ _ (part .0) (omega arith),
+      λ fits. filling-done _ _ _ _ (part .1 .0 ∙ inv .0, part .1 .1 (omega (arith, fits, inv .0)) ∙ inv .1 fits) (omega arith),
+    )
 
 pub index-pixels-spec : {M : Type 1} → statement M
 index-pixels-spec =
     tie.close
     (tie.spec
     Inv-loop μ-loop (λ c κs. search needs) (λ c κs. search needs) (λ c κs. search needs) (λ c κs. search needs) loop-holds
-    (λ c. omega arith) (λ c. omega arith) (λ c. omega arith) (λ c. omega arith) (λ c. omega arith) (λ c. omega arith)
-    (λ c. omega arith) (λ c. omega arith) (λ c. omega arith) word-index-requires index-levels-requires (λ c κs. omega arith)
-    with-index-requires (λ c. search needs) (λ c. search needs) loop-again (λ c. search needs) returns)
+    (λ c. omega arith) (λ c. search needs) (λ c κs. (omega arith, search needs)) (λ c. omega arith) index-part-requires (λ c. omega arith)
+    (λ c. omega arith) loop-again index-part-requires-2 (λ c. search needs) returns)

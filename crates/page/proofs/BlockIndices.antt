@@ -1,0 +1,38 @@
+-- Loops that work out the indices of a block, and what they leave. Assumes nothing.
+use Prim.Native.Nat.{ℕ, _+_, _*_, _%_, _<_}
+use mathlib.Core.Path.{_≡_, refl, sym, subst, ap, _∙_}
+use mathlib.Core.List.{List}
+use native.Mathlib.Omega.{arith}
+use borrow.Author.Count.{below-more}
+use lib.ListN.{length, getD, set, replicate, length-set, getD-replicate}
+use lib.Seq.{getD-set-same, getD-set-other}
+use Rattle.word.specs.Fields.{low16}
+use Rattle.luminance.specs.Codes.{IsNear}
+use Rattle.page.specs.BlockIndices.{TakenCodes, AreNear, NearIndices}
+
+-- each element before number i has a property, and the next one is stored
+pub stored-next : (P : ℕ → ℕ → Type 0) (t : List ℕ) (i : ℕ) {w n : ℕ} → length t ≡ n → i < n
+    → ((j : ℕ) → j < i → P j (getD t j 0)) → P i w
+    → (length (set t i w) ≡ n) × ((j : ℕ) → j < i + 1 → P j (getD (set t i w) j 0))
+stored-next P t i {w} {n} long inside before next = (
+  rw length-set long,
+  below-more (λ j. P j (getD (set t i w) j 0)) i (λ j h. subst (P j) (sym (getD-set-other t i j w 0 (λ q. omega arith))) (before j h))
+      (subst (P i) (sym (getD-set-same t i w 0 (omega arith))) next),
+)
+
+-- the codes of the pixels from number `from` on
+pub block-near : (ws : List ℕ) (from : ℕ) {reds greens blues indices : List ℕ} → TakenCodes ws (3 * from) reds
+    → TakenCodes ws (3 * from + 1) greens → TakenCodes ws (3 * from + 2) blues → AreNear reds greens blues indices → NearIndices ws from indices
+block-near ws from r g b near =
+    record {
+      near = λ j h.
+          let e₀ : 3 * from + 3 * j ≡ 3 * (from + j) = omega arith in
+          let e₁ : 3 * from + 1 + 3 * j ≡ 3 * (from + j) + 1 = omega arith in
+          let e₂ : 3 * from + 2 + 3 * j ≡ 3 * (from + j) + 2 = omega arith in
+          rw (← e₁, ← e₂, ← e₀, ← r .code j h, ← g .code j h, ← b .code j h) (near .near j h);
+    }
+
+-- nothing is worked out
+pub none-near : (ws : List ℕ) (from : ℕ) → NearIndices ws from (replicate 16 0)
+none-near ws from =
+    record { near = λ j h. record { right = λ r g b other. absurd (other (ap (λ i. i % 128) (getD-replicate 16 j 0 0 h))) } }
