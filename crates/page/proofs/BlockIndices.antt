@@ -10,16 +10,6 @@ use Rattle.word.specs.Fields.{low16}
 use Rattle.luminance.specs.Codes.{IsNear}
 use Rattle.page.specs.BlockIndices.{TakenCodes, AreNear, NearIndices}
 
--- each element before number i has a property, and the next one is stored
-pub stored-next : (P : ℕ → ℕ → Type 0) (t : List ℕ) (i : ℕ) {w n : ℕ} → length t ≡ n → i < n
-    → ((j : ℕ) → j < i → P j (getD t j 0)) → P i w
-    → (length (set t i w) ≡ n) × ((j : ℕ) → j < i + 1 → P j (getD (set t i w) j 0))
-stored-next P t i {w} {n} long inside before next = (
-  rw length-set long,
-  below-more (λ j. P j (getD (set t i w) j 0)) i (λ j h. subst (P j) (sym (getD-set-other t i j w 0 (λ q. omega arith))) (before j h))
-      (subst (P i) (sym (getD-set-same t i w 0 (omega arith))) next),
-)
-
 -- the codes of the pixels from number `from` on
 pub block-near : (ws : List ℕ) (from : ℕ) {reds greens blues indices : List ℕ} → TakenCodes ws (3 * from) reds
     → TakenCodes ws (3 * from + 1) greens → TakenCodes ws (3 * from + 2) blues → AreNear reds greens blues indices → NearIndices ws from indices

@@ -4,9 +4,8 @@ use mathlib.Core.Path.{_≡_, ap, _∙_}
 use mathlib.Core.List.{List}
 use native.Mathlib.Nat.{mul-add-mod-self-left}
 use native.Mathlib.Omega.{arith}
-use borrow.Author.Count.{below-more}
-use lib.ListN.{length, getD, set, length-set}
-use lib.Seq.{getD-set-same, getD-set-other}
+use lib.ListN.{length, getD, set}
+use Rattle.number.proofs.Laws.{stored-next}
 use Rattle.word.specs.Words.{channelWord}
 use Rattle.word.specs.Kinds.{IsKinds}
 
@@ -17,11 +16,7 @@ abbrev pub Filled : (f : ℕ → ℕ) → List ℕ → (i : ℕ) → Type 0
 Filled f t i = (length t ≡ 48) × ((j : ℕ) → j < i → getD t j 0 ≡ f j)
 
 pub filled-next : (f : ℕ → ℕ) (t : List ℕ) (i : ℕ) {w : ℕ} → Filled f t i → i < 48 → w ≡ f i → Filled f (set t i w) (i + 1)
-filled-next f t i {w} inv inside e = (
-  rw length-set (inv .0),
-  below-more (λ j. getD (set t i w) j 0 ≡ f j) i (λ j h. getD-set-other t i j w 0 (λ q. omega arith) ∙ inv .1 j h)
-      (getD-set-same t i w 0 (omega arith) ∙ e),
-)
+filled-next f t i inv inside e = stored-next (λ j v. v ≡ f j) t i (inv .0) inside (inv .1) e
 
 -- ---- the kinds
 

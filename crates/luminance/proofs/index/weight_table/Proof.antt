@@ -1,13 +1,11 @@
 -- `luminance::index::weight_table` meets its contract. Assumes nothing.
-use mathlib.Core.Path.{_≡_, refl, _∙_}
+use mathlib.Core.Path.{_≡_, refl}
 use Prim.Native.Nat.{ℕ, _+_, _-_, _*_, _^_, _≤_, _<_}
 use native.Mathlib.Omega.{arith}
-use borrow.Author.Count.{below-more}
 use borrow.Author.Needs.{needs}
-use mathlib.Core.List.{List}
-use lib.ListN.{length, getD, set, length-set}
+use lib.ListN.{length, getD}
 use lib.Pow.{pow-add}
-use lib.Seq.{getD-set-same, getD-set-other}
+use Rattle.number.proofs.Laws.{stored-next}
 use Rattle.luminance.proofs.Products.{shift-most}
 use Rattle.luminance.proofs.index.weight_table.Statement.{statement}
 use Rattle.luminance.proofs.index.weight_table.Tie as tie
@@ -20,14 +18,8 @@ Inv-loop weight table₀ entry₀ i₀ table entry i =
 abbrev μ-loop : tie.MeasureT-loop
 μ-loop weight table₀ entry₀ i₀ table entry i = 48 - i
 
-next : (weight entry i : ℕ) (table : List ℕ) → i < 48 → length table ≡ 48 → entry ≡ weight * 2 ^ i
-    → ((k : ℕ) → k < i → getD table k 0 ≡ weight * 2 ^ k)
-    → (2 * entry ≡ weight * 2 ^ (i + 1)) × ((k : ℕ) → k < i + 1 → getD (set table i entry) k 0 ≡ weight * 2 ^ k)
-next weight entry i table h size e so-far = (
-  rw (pow-add 2 i 1) (omega arith),
-  below-more _ _ (λ k l. getD-set-other table i k entry 0 (λ q. omega arith) ∙ so-far k l)
-      (getD-set-same table i entry 0 (omega arith) ∙ e),
-)
+next : (weight entry i : ℕ) → entry ≡ weight * 2 ^ i → 2 * entry ≡ weight * 2 ^ (i + 1)
+next weight entry i e = rw (pow-add 2 i 1) (omega arith)
 
 loop-holds : tie.Need-loop-holds Inv-loop μ-loop
 loop-holds c = (omega arith, refl, omega arith, λ k l. absurd (omega arith))
@@ -38,8 +30,9 @@ mul-entry c = omega (arith, shift-most (c .before .before .args .weight) (c .bef
 loop-again : tie.Need-loop-again Inv-loop μ-loop
 loop-again c =
     let v = c .before .loop in
-    let n = next _ _ (v .i) (v .table) (omega arith) (v .inv .1) (v .inv .2) (v .inv .3) in
-    (omega arith, simp length-set (v .inv .1), n .0, n .1)
+    let weight = c .before .before .args .weight in
+    let stored = stored-next (λ k w. w ≡ weight * 2 ^ k) (v .table) (v .i) (v .inv .1) (omega arith) (v .inv .3) (v .inv .2) in
+    (omega arith, stored .0, next weight (v .entry) (v .i) (v .inv .2), stored .1)
 
 returns : tie.Need-returns Inv-loop μ-loop
 returns c = record { entry = λ i h. c .before .loop .inv .3 i (omega arith) }

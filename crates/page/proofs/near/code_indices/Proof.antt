@@ -6,7 +6,7 @@ use native.Mathlib.Omega.{arith}
 use lib.ListN.{length, getD}
 use denote.Ref.{now}
 use Rattle.luminance.specs.Codes.{IsNear}
-use Rattle.page.proofs.BlockIndices.{stored-next}
+use Rattle.number.proofs.Laws.{stored-next}
 use Rattle.page.proofs.near.code_indices.Statement.{statement}
 use Rattle.page.proofs.near.code_indices.Tie as tie
 

@@ -6,7 +6,7 @@ use native.Mathlib.Omega.{arith}
 use lib.ListN.{length, getD}
 use denote.Ref.{now}
 use Rattle.word.specs.Fields.{low16}
-use Rattle.page.proofs.BlockIndices.{stored-next}
+use Rattle.number.proofs.Laws.{stored-next}
 use Rattle.page.proofs.near.take_codes.Statement.{statement}
 use Rattle.page.proofs.near.take_codes.Tie as tie
 
