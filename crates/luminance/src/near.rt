@@ -20,14 +20,15 @@ fn moved(value: u16, i: u16) -> u32
     value as u32 * power(i) as u32
 }
 
-// The place of an exponent, where green's is at 4. It is 8 or more for an exponent that lies further away.
-fn near_place(exponent: u16, green: u16) -> u16
-    ensures { λ r. ⌜ (exponent < 256 → green < 256 → r < 8 → r + green ≡ exponent + 4) ⌝ }
+// The place of a channel's exponent, where green's is at 4. It is 8 or more for an exponent that lies further away.
+fn near_place(code: u16, green: u16) -> u16
+    ensures { λ r. ⌜ (r < 8 → r + green / 256 ≡ code / 256 + 4) ⌝ }
 {
-    std::num::wrapping_sub_u16(exponent % 256 + 4, green)
+    std::num::wrapping_sub_u16(code / 256 + 4, green / 256)
 }
 
-// The weighted sum of three channels by their codes and the places r and b of red and blue.
+// The weighted sum of three channels by their codes and the places r and b of red and blue. Each weight is multiplied by twice the mantissa
+// and one.
 fn near_sum(red: u16, green: u16, blue: u16, r: u16, b: u16) -> u32
     ensures sum { λ s. ⌜ s ≡ (2 * (red % 256) + 1) * (27 * 2 ^ (r % 8)) + (2 * (green % 256) + 1) * (67 * 2 ^ 4) + (2 * (blue % 256) + 1) * (6 * 2 ^ (b % 8)) ⌝ }
     ensures bound { λ s. ⌜ s < 2048 * 1600 ⌝ }
@@ -43,8 +44,8 @@ fn lesser(a: u16, b: u16) -> u16
     if b < a { b } else { a }
 }
 
-// The index of a sum's hundredth behind the one where its first octave begins: for each octave, 128 and the quotient halved once more; the
-// least of these is the one of the sum's own octave.
+// How far the index of a quotient from 128 to 2047 lies behind that of an octave's beginning: 128 for each octave, and the quotient halved
+// once for each. The least of these sums is the one of the quotient's own octave.
 fn octave_index(quotient: u16) -> u16
     ensures { λ r. ⌜ r ≡ min (min quotient (quotient / 2 + 128)) (min (quotient / 4 + 256) (quotient / 8 + 384)) ⌝ }
 {
@@ -54,17 +55,20 @@ fn octave_index(quotient: u16) -> u16
     )
 }
 
+// 128 * 68: a quotient of 128 stands for the exponent below green's, and indices begin at 66.
+const FIRST_OCTAVE: u16 = 8704;
+
 // The index of a pixel's luminance by the codes of its channels, or a multiple of 128 where it is not worked out: where red or blue lie
 // further from green than 4 exponents below or 3 above, where all are black, and where the mantissa is 128.
 pub fn near_index(red: u16, green: u16, blue: u16) -> u16
     ensures { λ r. ⌜ IsNear red green blue r ⌝ }
 {
-    let exponent = green / 256;
-    let r = near_place(red / 256, exponent);
-    let b = near_place(blue / 256, exponent);
+    let r = near_place(red, green);
+    let b = near_place(blue, green);
     let sum = near_sum(red, green, blue, r, b);
     let octave = octave_index((sum / 64) as u16 / 25);
-    let index = std::num::wrapping_sub_u16(128 * exponent + octave, 8704);
+    let exponent = green / 256;
+    let index = std::num::wrapping_sub_u16(128 * exponent + octave, FIRST_OCTAVE);
     let near_red = if r < 8 { index } else { 0 };
     let near = if b < 8 { near_red } else { 0 };
     if exponent == 0 { 0 } else { near }

@@ -1,13 +1,9 @@
 -- Loops that work out the indices of a block, and what they leave. Assumes nothing.
-use Prim.Native.Nat.{ℕ, _+_, _*_, _%_, _<_}
-use mathlib.Core.Path.{_≡_, refl, sym, subst, ap, _∙_}
+use Prim.Native.Nat.{ℕ, _+_, _*_, _%_}
+use mathlib.Core.Path.{_≡_, ap}
 use mathlib.Core.List.{List}
 use native.Mathlib.Omega.{arith}
-use borrow.Author.Count.{below-more}
-use lib.ListN.{length, getD, set, replicate, length-set, getD-replicate}
-use lib.Seq.{getD-set-same, getD-set-other}
-use Rattle.word.specs.Fields.{low16}
-use Rattle.luminance.specs.Codes.{IsNear}
+use lib.ListN.{replicate, getD-replicate}
 use Rattle.page.specs.BlockIndices.{TakenCodes, AreNear, NearIndices}
 
 -- the codes of the pixels from number `from` on

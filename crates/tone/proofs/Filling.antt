@@ -2,10 +2,9 @@
 use mathlib.Core.Path.{_≡_, _∙_, sym}
 use mathlib.Core.List.{List}
 use Prim.Native.Nat.{ℕ, _+_, _≤_, _<_}
-use native.Mathlib.Decide.{decLt}
 use native.Mathlib.Omega.{arith}
-use lib.ListN.{length, getD, set, replicate, length-set, length-replicate, getD-replicate}
-use lib.Seq.{getD-set-same, getD-set-other}
+use lib.ListN.{length, getD, set, replicate, length-replicate, getD-replicate}
+use Rattle.number.proofs.Laws.{stored-next}
 
 -- a table of n entries whose entry at each k below i is f k
 pub record Filled (f : ℕ → ℕ) (n i : ℕ) (entries : List ℕ) : Type 0 where
@@ -19,10 +18,5 @@ filled-zeros f n i h z =
 pub filled-more : (f : ℕ → ℕ) (n i : ℕ) (entries : List ℕ) (v : ℕ) → Filled f n i entries → i < n → v ≡ f i
     → Filled f n (i + 1) (set entries i v)
 filled-more f n i entries v t h e =
-    record { size = length-set entries i v ∙ t .size; entry = λ k l. go k l (decLt k i) }
-  where
-    go : (k : ℕ) → k < i + 1 → Dec (k < i) → getD (set entries i v) k 0 ≡ f k
-    go k l (yes b) = getD-set-other entries i k v 0 (λ q. omega arith) ∙ t .entry k b
-    go k l (no b) =
-        let q : k ≡ i = omega arith in
-        rw q (getD-set-same entries i v 0 (omega (arith, t .size)) ∙ e)
+    let s = stored-next (λ k w. w ≡ f k) entries i (t .size) h (t .entry) e in
+    record { size = s .0; entry = s .1 }

@@ -1,10 +1,8 @@
 -- `luminance::near::near_index` meets its contract. Assumes nothing.
 use borrow.Author.Needs.{needs}
-use Prim.Native.Nat.{ℕ, _+_, _*_, _/_, _%_, _<_, _≤_}
-use mathlib.Core.Path.{_≡_}
 use mathlib.Core.Logic.{⊎-elim}
 use native.Mathlib.Omega.{arith}
-use Rattle.luminance.proofs.Indices.{octaves, near-index}
+use Rattle.luminance.proofs.Indices.{near-index}
 use Rattle.luminance.proofs.near.near_index.Statement.{statement}
 use Rattle.luminance.proofs.near.near_index.Tie as tie
 
@@ -20,8 +18,8 @@ returns-2 c =
           (λ near.
           ⊎-elim
           (λ near-red.
-          near-index _ red green blue (near-red .0 .taken, r .near-place .ensures (omega arith) (omega arith) (near-red .0 .taken))
-          (near .0 .taken, b .near-place2 .ensures (omega arith) (omega arith) (near .0 .taken)) (s .near-sum .ensures .0)
+          near-index _ red green blue (near-red .0 .taken, r .near-place .ensures (near-red .0 .taken))
+          (near .0 .taken, b .near-place2 .ensures (near .0 .taken)) (s .near-sum .ensures .0)
           (s .near-sum .ensures .1) (c .if3 .left) _ (omega arith) (rw (← w .before .octave-index .ensures) (rw (near .1, near-red .1) (w .wrapping-sub-u16 .ensures))) other)
           (λ far. absurd (other (omega arith))) (c .before .before .if1 .came))
           (λ far. absurd (other (omega arith))) (c .before .if2 .came);

@@ -1,7 +1,7 @@
 -- `page::body_tally::index_pixels` meets its contract: at each turn the tally is that of the blocks so far, and the indices that are left
 -- give the whole. Assumes nothing.
 use borrow.Author.Needs.{needs}
-use Prim.Native.Nat.{_+_, _-_, _*_, _≤_}
+use Prim.Native.Nat.{_-_, _≤_}
 use mathlib.Core.Path.{_≡_, refl, _∙_}
 use native.Mathlib.Omega.{arith}
 use lib.ListN.{length}
