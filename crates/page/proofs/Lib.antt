@@ -4,3 +4,4 @@ pub mod Strips
 pub mod Bounds
 pub mod Indices
 pub mod Factors
+pub mod Blocks
