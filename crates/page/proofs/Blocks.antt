@@ -16,7 +16,7 @@ use Rattle.page.specs.declared.levels.WideLevels.{WideLevels}
 use Rattle.page.specs.Mapping.{levelBytes, levelsOf}
 use Rattle.page.specs.Indices.{HoldsIndices}
 use Rattle.page.specs.FactorTables.{limited}
-use Rattle.page.specs.Blocks.{blockLevels, limitedFront}
+use Rattle.page.specs.Blocks.{blockLevels, limitedFront, HoldsLevels}
 use Rattle.page.proofs.Walks.{filling, length-bytes}
 
 -- ---- the numbers with their limit
@@ -36,8 +36,8 @@ front t k r g b h =
     let e₂ : k + 2 ≡ suc (suc k) = omega arith in
     let e₃ : k + 3 ≡ suc (suc (suc k)) = omega arith in
     rw (e₁, e₂, e₃) (
-      take-suc-set (set (set t k r) (suc k) g) (suc (suc k)) b (simp length-set (omega arith))
-      ∙ rw (take-suc-set (set t k r) (suc k) g (simp length-set (omega arith)), take-suc-set t k r (omega arith)) (simp append-assoc)
+    take-suc-set (set (set t k r) (suc k) g) (suc (suc k)) b (simp length-set (omega arith))
+    ∙ rw (take-suc-set (set t k r) (suc k) g (simp length-set (omega arith)), take-suc-set t k r (omega arith)) (simp append-assoc)
     )
 
 -- ---- a loop that fills a block
@@ -70,7 +70,11 @@ module _ (K : ℕ) (a : Stored) (ws : List ℕ) (from n : ℕ) where
       ∙ map-append (min 255) (take (3 * n) wide) (w .red ∷ w .green ∷ w .blue ∷ [])
       ∙ rw (inv, levels (limited w) e, next) (sym (bytes-append (levelsOf K a) (take n ps) (p ∷ []))))
 
--- ---- the block in the output
+  -- a whole block
+  pub block-whole : {wide : List ℕ} → HoldsLevels K a ws from n wide → n ≡ 16 → limitedFront 48 wide ≡ blockLevels K a ws from n
+  block-whole {wide} h e = let m : 48 ≡ 3 * n = omega arith in ap (λ k. limitedFront k wide) m ∙ h .levels
+
+  -- ---- the block in the output
 
   module _ (inside : from + n ≤ length ws / 3) where
     length-block : length (blockLevels K a ws from n) ≡ 3 * n

@@ -159,7 +159,19 @@ fn fill_block(
     ensures table { λ _. ⌜ IsFactorTable key average (now (factors .exit)) ⌝ }
     ensures long { λ _. ⌜ length (now (wide .exit)) ≡ 48 ⌝ }
 {
-    wide_levels(powers, reciprocals, scaled, key, average, words, from, count, output, factors, wide);
+    wide_levels(
+        powers,
+        reciprocals,
+        scaled,
+        key,
+        average,
+        words,
+        from,
+        count,
+        output,
+        factors,
+        wide,
+    );
     if count == BLOCK_PIXELS {
         limit_levels(wide, 48, 3 * from, output);
     } else {
@@ -171,7 +183,11 @@ fn fill_block(
 fn block_count(left: usize) -> usize
     ensures { λ r. ⌜ r ≡ min 16 left ⌝ }
 {
-    if left < BLOCK_PIXELS { left } else { BLOCK_PIXELS }
+    if left < BLOCK_PIXELS {
+        left
+    } else {
+        BLOCK_PIXELS
+    }
 }
 
 // The levels of channel words under a key and an average, in the place of the luminances' indices.

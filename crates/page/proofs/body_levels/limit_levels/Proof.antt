@@ -33,7 +33,7 @@ loop-again c =
     let next : a .at + (l .j + 1) ≡ a .at + l .j + 1 = omega arith in
     let long : length vs ≡ a .count = length-limited _ _ (search needs) in
     let s = storing-next vs (l .j) _ (l .output) (l .inv .1, l .inv .2) (rw long (t .loop-test .taken))
-        (limited-at _ _ _ (t .loop-test .taken) ∙ sym (c .at-most-255 .ensures)) in
+    (limited-at _ _ _ (t .loop-test .taken) ∙ sym (c .at-most-255 .ensures)) in
     (omega arith, s .0, rw next (s .1))
 
 returns : tie.Need-returns Inv-loop μ-loop
