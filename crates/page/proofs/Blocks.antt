@@ -65,7 +65,7 @@ module _ (K : ℕ) (a : Stored) (ws : List ℕ) (from n : ℕ) where
       let there : n < length ps = simp length-drop (rw (length-word-pixels ws) (omega arith)) in
       let next : take (n + 1) ps ≡ take n ps ++ (p ∷ []) =
       rw (add-one n) (take-suc ps n p there ∙ rw (getD-drop from (wordPixels ws) n p, pixel-at ws (from + n) inside)) in
-      let levels : (l : Levels) → l ≡ levelsOf K a p → l .red ∷ l .green ∷ l .blue ∷ [] ≡ levelBytes (map (levelsOf K a) (p ∷ [])) = λ l q. rw q in
+      let levels : (l : Levels) → l ≡ levelsOf K a p → levelBytes (l ∷ []) ≡ levelBytes (map (levelsOf K a) (p ∷ [])) = λ l q. rw q in
       rw k (ap (map (min 255)) (front wide (3 * n) (w .red) (w .green) (w .blue) long)
       ∙ map-append (min 255) (take (3 * n) wide) (w .red ∷ w .green ∷ w .blue ∷ [])
       ∙ rw (inv, levels (limited w) e, next) (sym (bytes-append (levelsOf K a) (take n ps) (p ∷ []))))

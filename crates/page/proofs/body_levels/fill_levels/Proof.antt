@@ -59,7 +59,11 @@ loop-again c =
     let n = b .before .before .before .before .before .before .before .block-count in
     let inside : l .p + n .result ≤ length (s .args .words .now) / 3 = omega (arith, n .ensures, t .loop-test .taken) in (
       rw (b .fill-block .ensures .0) (filling-block _ _ _ _ _ inside (l .output) (l .inv .0)),
-      (rw (b .fill-block .ensures .0) (indices-behind _ _ _ _ _ inside (l .output) (l .inv .1 .0)), b .fill-block .ensures .1 .0, b .fill-block .ensures .1 .1),
+      (
+        rw (b .fill-block .ensures .0) (indices-behind _ _ _ _ _ inside (l .output) (l .inv .1 .0)),
+        b .fill-block .ensures .1 .0,
+        b .fill-block .ensures .1 .1,
+      ),
     )
 
 returns : tie.Need-returns Inv-loop μ-loop

@@ -1,7 +1,7 @@
 -- `page::body_levels::wide_levels` meets its contract: at each turn the levels so far stand in the block. Assumes nothing.
 use borrow.Author.Needs.{needs}
 use Prim.Native.Nat.{_+_, _-_, _*_, _≤_}
-use mathlib.Core.Path.{_≡_, refl, sym, ap, _∙_}
+use mathlib.Core.Path.{_≡_, ap, _∙_}
 use native.Mathlib.Omega.{arith}
 use lib.ListN.{length, length-set}
 use Rattle.word.proofs.Pixels.{pixelAt}
@@ -73,7 +73,8 @@ loop-again c =
     let inv = t .before .loop .inv in
     let s = t .before .before .before .before in
     let tables = s .pre .0 in
-    let levels = levels-by _ _ (tables .key) (tables .stored) _ (pixel-valid _ _ _) (f .factor-at .ensures .0 ∙ ap (factorUnder _ _) (index i)) (l .pixel-levels .ensures) in (
+    let factor = f .factor-at .ensures .0 ∙ ap (factorUnder _ _) (index i) in
+    let levels = levels-by _ _ (tables .key) (tables .stored) _ (pixel-valid _ _ _) factor (l .pixel-levels .ensures) in (
       omega arith,
       rw (c .store-wide .ensures) (simp length-set (inv .1)),
       rw (c .store-wide .ensures) (block-next _ _ _ _ _ (t .before .loop .wide) (inv .2) (omega arith) (omega arith) _ levels),
