@@ -19,10 +19,10 @@ use Rattle.luminance.specs.Pixels.{IsPixel, luminanceOf, IsLuminance}
 use Rattle.average.specs.Averages.{IsStoredAverage}
 use Rattle.tone.specs.Factors.{factorOf}
 use Rattle.tone.specs.Levels.{IsKey, reinhard, scaledOf, displayOf}
-use Rattle.page.specs.declared.levels.Levels.{Levels}
+use Rattle.page.specs.declared.levels.WideLevels.{WideLevels}
 use Rattle.page.specs.Mapping.{levelsFrom, levelsOf}
 use Rattle.page.specs.Indices.{luminanceAt, InRange, IsIndex, pixelIndex}
-use Rattle.page.specs.FactorTables.{unlitFactor, factorUnder, IsFactorTable, LevelsBy}
+use Rattle.page.specs.FactorTables.{unlitFactor, factorUnder, IsFactorTable, limited, LevelsBy}
 use Rattle.luminance.proofs.Laws.{luminance-range, index-stored, index-range}
 use Rattle.tone.proofs.Laws.{factor-most, display-mantissa}
 
@@ -104,10 +104,11 @@ no-factors n long K a =
 -- ---- the levels of a pixel by the factor of its luminance
 
 module _ (K : ℕ) (a : Stored) (key : IsKey K) (average : IsStoredAverage a) (p : Pixel) (valid : IsPixel p) where
-  pub levels-by : {factor : ℕ} {l : Levels} → factor ≡ factorUnder K a (pixelIndex p) → LevelsBy factor p l → l ≡ levelsOf K a p
-  levels-by {factor} {l} e by = go (luminanceOf p) refl
+  pub levels-by : {factor : ℕ} {w : WideLevels} → factor ≡ factorUnder K a (pixelIndex p) → LevelsBy factor p w
+      → limited w ≡ levelsOf K a p
+  levels-by {factor} {w} e by = go (luminanceOf p) refl
     where
-      go : (y : Luminance) → luminanceOf p ≡ y → l ≡ levelsFrom y K a p
+      go : (y : Luminance) → luminanceOf p ≡ y → limited w ≡ levelsFrom y K a p
       go Unlit told =
           let f : factor ≡ unlitFactor = e ∙ rw told (factor-unlit K a) in
           by .unlit (rw f refl)

@@ -1,11 +1,11 @@
 -- The indices of luminances, and how they stand in an output. Assumes nothing.
 use Prim.Native.Nat.{ℕ, zero, suc, _+_, _*_, _/_, _<_}
-use mathlib.Core.Path.{_≡_, refl, ap, _∙_}
+use mathlib.Core.Path.{_≡_, refl, ap}
 use mathlib.Core.List.{List, [], _∷_, _++_, map}
 use native.Mathlib.Omega.{arith}
 use borrow.Author.Tests.{ne-eqb}
-use lib.ListN.{length, getD, set, drop}
-use lib.Seq.{getD-set-other, drop-append-seam}
+use lib.ListN.{length, getD, drop}
+use lib.Seq.{drop-append-seam}
 use Rattle.number.specs.Channels.{Coded}
 use Rattle.number.specs.declared.channel.Pixel.{Pixel}
 use Rattle.refusal.specs.declared.Verdict.the-variants.{Accepted}
@@ -91,26 +91,6 @@ indices-held ws old =
           let rest = drop (length (indexBytes (wordPixels ws))) old in
           let b = bytes-at indexed (wordPixels ws) rest p (pixelAt ws p) (rw (length-word-pixels ws) inside) in
           rw (b .0, b .1, pixel-at ws p inside) (omega arith);
-    }
-
-past : (t : List ℕ) (k i r g b : ℕ) → k + 2 < i → getD (set (set (set t k r) (k + 1) g) (k + 2) b) i 0 ≡ getD t i 0
-past t k i r g b h =
-    getD-set-other (set (set t k r) (k + 1) g) (k + 2) i b 0 (λ e. omega arith)
-    ∙ getD-set-other (set t k r) (k + 1) i g 0 (λ e. omega arith)
-    ∙ getD-set-other t k i r 0 (λ e. omega arith)
-
--- the bytes of pixel p are stored, those behind it stay
-pub indices-left : (ws t : List ℕ) (p : ℕ) (l : Levels) → HoldsIndices p ws t
-    → let k = 3 * p in
-    HoldsIndices (p + 1) ws (set (set (set t k (l .red)) (k + 1) (l .green)) (k + 2) (l .blue))
-indices-left ws t p l held =
-    record {
-      index = λ q from inside.
-          rw (
-            past t (3 * p) (3 * q) (l .red) (l .green) (l .blue) (omega arith),
-            past t (3 * p) (3 * q + 1) (l .red) (l .green) (l .blue) (omega arith),
-          )
-          (held .index q (omega arith) inside);
     }
 
 -- other bytes in the front take the place of the indices

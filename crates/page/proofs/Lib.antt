@@ -5,3 +5,4 @@ pub mod Bounds
 pub mod Indices
 pub mod Factors
 pub mod BlockIndices
+pub mod Blocks

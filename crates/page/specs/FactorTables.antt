@@ -1,5 +1,5 @@
 -- The factors of a page's luminances, worked out as they appear. Assumes nothing.
-use Prim.Native.Nat.{ℕ, _%_, _^_, _<_}
+use Prim.Native.Nat.{ℕ, _%_, _^_, _<_, min}
 use mathlib.Core.Path.{_≡_}
 use mathlib.Core.Logic.{_⊎_}
 use mathlib.Core.Bool.{cond}
@@ -13,6 +13,7 @@ use Rattle.luminance.specs.Codes.{indexCount, storedAt}
 use Rattle.tone.specs.Factors.{factorOf}
 use Rattle.tone.specs.Levels.{reinhard, scaledOf, displayOf, levelOf}
 use Rattle.page.specs.declared.levels.Levels.{Levels}
+use Rattle.page.specs.declared.levels.WideLevels.{WideLevels}
 use Rattle.page.specs.Mapping.{byChannel}
 
 -- what stands for an unlit pixel: not 0, and every level is 0
@@ -29,8 +30,12 @@ pub record IsFactorTable (K : ℕ) (average : Stored) (factors : List ℕ) : Typ
   pub unlit : getD factors 0 0 ≡ unlitFactor
   pub entry : (i : ℕ) → i < indexCount → (getD factors i 0 ≡ 0) ⊎ (getD factors i 0 ≡ factorUnder K average i)
 
--- the levels of a pixel by a factor
-pub record LevelsBy (factor : ℕ) (p : Pixel) (levels : Levels) : Type 0 where
+-- the limit of 255
+abbrev pub limited : WideLevels → Levels
+limited w = record { red = min 255 (w .red); green = min 255 (w .green); blue = min 255 (w .blue) }
+
+-- the levels of a pixel by a factor, before their limit
+pub record LevelsBy (factor : ℕ) (p : Pixel) (wide : WideLevels) : Type 0 where
   pub lit : (d y : Stored) → IsMantissa (d .mantissa) → IsMantissa (y .mantissa) → factor ≡ factorOf d y
-      → levels ≡ byChannel (λ c. levelOf d c y) p
-  pub unlit : factor % 2 ^ 40 ≡ 0 → levels ≡ byChannel (λ c. 0) p
+      → limited wide ≡ byChannel (λ c. levelOf d c y) p
+  pub unlit : factor % 2 ^ 40 ≡ 0 → limited wide ≡ byChannel (λ c. 0) p

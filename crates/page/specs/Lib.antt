@@ -4,4 +4,5 @@ pub mod Indices
 pub mod BlockIndices
 pub mod Parts
 pub mod FactorTables
+pub mod Blocks
 pub mod Claims

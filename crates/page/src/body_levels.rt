@@ -1,8 +1,9 @@
 // The levels of an accepted strip, pixel by pixel, from the luminances that its tally left in the output.
 ghost use mathlib.Core.Path.{_≡_};
-ghost use Prim.Native.Nat.{ℕ, _+_, _*_, _^_, _≤_, _<_};
+ghost use Prim.Native.Nat.{ℕ, _+_, _*_, _^_, _≤_, _<_, min};
 ghost use Rattle.number.specs.declared.ratio.Stored.{Stored};
 ghost use lib.ListN.{length, replicate};
+ghost use lib.Seq.{sets};
 ghost use Rattle.refusal.specs.declared.Verdict.{Verdict};
 ghost use Rattle.number.specs.Channels.{IsCode};
 ghost use Rattle.strip.specs.Checks.{headerFields, bodyPart, channelCount, checkStrip};
@@ -17,19 +18,24 @@ ghost use Rattle.average.specs.Averages.{IsStoredAverage};
 ghost use Rattle.page.specs.Indices.{AreCodes, IsIndex, HoldsIndices};
 ghost use Rattle.page.specs.FactorTables.{factorUnder, IsFactorTable, LevelsBy};
 ghost use Rattle.page.specs.Mapping.{levelsUnder};
-use crate::levels::Levels;
-use crate::levels::store_levels;
+ghost use Rattle.page.specs.Blocks.{AreTables, IsBlock, blockLevels, limitedFront, HoldsLevels};
+use crate::levels::WideLevels;
+use crate::levels::store_wide;
 use luminance::index::stored_at;
 use number::ratio::Stored;
+use tone::factor::at_most_255;
 use tone::factor::factor;
-use tone::factor::level_by;
 use tone::factor::power_table;
 use tone::factor::reciprocal_table;
+use tone::factor::wide_level;
 use tone::level::display_by;
 use tone::level::scaled_table;
 use word::body::BODY_START;
 use word::header::low_half;
 use word::header::pixel_count;
+
+// The most pixels of a block.
+const BLOCK_PIXELS: usize = 16;
 
 // What stands for the factor of an unlit pixel: a number other than 0 that makes every level 0.
 const UNLIT: u64 = 1099511627776;
@@ -71,15 +77,15 @@ fn factor_at(
     made
 }
 
-// The levels of a pixel's words by the factor of its luminance.
-fn pixel_levels(powers: &[u64; 640], factor: u64, red: u32, green: u32, blue: u32) -> Levels
+// The levels of a pixel's words by the factor of its luminance, before their limit.
+fn pixel_levels(powers: &[u64; 640], factor: u64, red: u32, green: u32, blue: u32) -> WideLevels
     requires { ⌜ IsPowerTable (now powers) × (factor < 374 * 2 ^ 40) × IsCode (low16 red) × IsCode (low16 green) × IsCode (low16 blue) ⌝ }
     ensures { λ r. ⌜ LevelsBy factor (pixelOf (wordChannel red) (wordChannel green) (wordChannel blue)) r ⌝ }
 {
-    Levels {
-        red: level_by(powers, factor, low_half(red)),
-        green: level_by(powers, factor, low_half(green)),
-        blue: level_by(powers, factor, low_half(blue)),
+    WideLevels {
+        red: wide_level(powers, factor, low_half(red)),
+        green: wide_level(powers, factor, low_half(green)),
+        blue: wide_level(powers, factor, low_half(blue)),
     }
 }
 
@@ -88,6 +94,100 @@ fn index_in(low: u8, high: u8) -> usize
     ensures { λ r. ⌜ r ≡ low + 256 * high ⌝ }
 {
     low as usize + 256 * (high as usize)
+}
+
+// The levels of the `count` pixels from number `from` on, before their limit. The output has the indices of their luminances.
+fn wide_levels(
+    powers: &[u64; 640],
+    reciprocals: &[u64; 128],
+    scaled: &[u16; 128],
+    key: u64,
+    average: Stored,
+    words: &[u32],
+    from: usize,
+    count: usize,
+    output: &[u8],
+    factors: &mut [u64; 15232],
+    wide: &mut [u16; 48],
+)
+    requires { ⌜ AreTables key average (now powers) (now reciprocals) (now scaled) × IsBlock (now words) from count (now output)
+        × IsFactorTable key average (now factors) × (length (now wide) ≡ 48) ⌝ }
+    ensures levels { λ _. ⌜ HoldsLevels key average (now (words .entry)) from count (now (wide .exit)) ⌝ }
+    ensures table { λ _. ⌜ IsFactorTable key average (now (factors .exit)) ⌝ }
+{
+    let mut j: usize = 0;
+    while j < count {
+        let at = 3 * (from + j);
+        let index = index_in(output[at], output[at + 1]);
+        let factor = factor_at(reciprocals, scaled, key, average, index, factors);
+        let levels = pixel_levels(powers, factor, words[at], words[at + 1], words[at + 2]);
+        store_wide(levels, 3 * j, wide);
+        j += 1;
+    }
+}
+
+// The first `count` levels with their limit, into the output from the index `at` on.
+fn limit_levels(wide: &[u16; 48], count: usize, at: usize, output: &mut [u8])
+    requires { ⌜ (count ≤ 48) × (at + count ≤ length (now output)) × (length (now wide) ≡ 48) ⌝ }
+    ensures { λ _. ⌜ now (output .exit) ≡ sets (now (output .entry)) at (limitedFront count (now (wide .entry))) ⌝ }
+{
+    let mut j: usize = 0;
+    while j < count {
+        output[at + j] = at_most_255(wide[j]);
+        j += 1;
+    }
+}
+
+// The levels of the `count` pixels from number `from` on, in the place of the luminances' indices. The limit of a whole block is taken for
+// many levels at a time: there the compiler knows the count.
+fn fill_block(
+    powers: &[u64; 640],
+    reciprocals: &[u64; 128],
+    scaled: &[u16; 128],
+    key: u64,
+    average: Stored,
+    words: &[u32],
+    from: usize,
+    count: usize,
+    factors: &mut [u64; 15232],
+    wide: &mut [u16; 48],
+    output: &mut [u8],
+)
+    requires { ⌜ AreTables key average (now powers) (now reciprocals) (now scaled) × IsBlock (now words) from count (now output)
+        × IsFactorTable key average (now factors) × (length (now wide) ≡ 48) ⌝ }
+    ensures levels { λ _. ⌜ now (output .exit) ≡ sets (now (output .entry)) (3 * from) (blockLevels key average (now (words .entry)) from count) ⌝ }
+    ensures table { λ _. ⌜ IsFactorTable key average (now (factors .exit)) ⌝ }
+    ensures long { λ _. ⌜ length (now (wide .exit)) ≡ 48 ⌝ }
+{
+    wide_levels(
+        powers,
+        reciprocals,
+        scaled,
+        key,
+        average,
+        words,
+        from,
+        count,
+        output,
+        factors,
+        wide,
+    );
+    if count == BLOCK_PIXELS {
+        limit_levels(wide, 48, 3 * from, output);
+    } else {
+        limit_levels(wide, 3 * count, 3 * from, output);
+    }
+}
+
+// How many pixels the next block has, where so many are left.
+fn block_count(left: usize) -> usize
+    ensures { λ r. ⌜ r ≡ min 16 left ⌝ }
+{
+    if left < BLOCK_PIXELS {
+        left
+    } else {
+        BLOCK_PIXELS
+    }
 }
 
 // The levels of channel words under a key and an average, in the place of the luminances' indices.
@@ -99,15 +199,25 @@ fn fill_levels(words: &[u32], key: u64, average: Stored, output: &mut [u8])
     let reciprocals = reciprocal_table();
     let scaled = scaled_table(key, average);
     let mut factors = empty_table();
+    let mut wide = [0u16; 48];
     let pixels = words.len() / 3;
     let mut p: usize = 0;
     while p < pixels {
-        let at = 3 * p;
-        let index = index_in(output[at], output[at + 1]);
-        let factor = factor_at(&reciprocals, &scaled, key, average, index, &mut factors);
-        let levels = pixel_levels(&powers, factor, words[at], words[at + 1], words[at + 2]);
-        store_levels(levels, at, output);
-        p += 1;
+        let count = block_count(pixels - p);
+        fill_block(
+            &powers,
+            &reciprocals,
+            &scaled,
+            key,
+            average,
+            words,
+            p,
+            count,
+            &mut factors,
+            &mut wide,
+            output,
+        );
+        p += count;
     }
 }
 

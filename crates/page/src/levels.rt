@@ -1,4 +1,4 @@
-// The level bytes of one pixel.
+// The levels of one pixel: its bytes, and before the limit of 255.
 ghost use mathlib.Core.Path.{_≡_};
 ghost use Prim.Native.Nat.{_+_, _<_};
 ghost use lib.ListN.{length, set};
@@ -17,4 +17,20 @@ pub fn store_levels(levels: Levels, at: usize, output: &mut [u8])
     output[at] = levels.red;
     output[at + 1] = levels.green;
     output[at + 2] = levels.blue;
+}
+
+pub struct WideLevels {
+    pub red: u16,
+    pub green: u16,
+    pub blue: u16,
+}
+
+// The three numbers of a pixel, from the index `at` on.
+pub fn store_wide(levels: WideLevels, at: usize, wide: &mut [u16; 48])
+    requires { ⌜ at + 2 < 48 ⌝ }
+    ensures { λ _. ⌜ now (wide .exit) ≡ set (set (set (now (wide .entry)) at (levels .red)) (at + 1) (levels .green)) (at + 2) (levels .blue) ⌝ }
+{
+    wide[at] = levels.red;
+    wide[at + 1] = levels.green;
+    wide[at + 2] = levels.blue;
 }

@@ -2,7 +2,7 @@
 use Prim.Native.Nat.{ℕ, zero, suc, _+_, _-_, _/_, _%_, _^_, _≤_, _<_}
 use mathlib.Core.Path.{_≡_, refl, _∙_}
 use mathlib.Core.Bool.{Bool, true, false}
-use mathlib.Core.List.{List, [], _∷_, _++_}
+use mathlib.Core.List.{List, _++_}
 use native.Mathlib.Nat.{pow-suc, one-le-pow, pow-le-pow-right}
 use native.Mathlib.Omega.{arith}
 use borrow.Author.Tests.{lt-ltb, le-ltb, leb-true, leb-false}
@@ -11,14 +11,10 @@ use lib.ListN.{length, length-append}
 use lib.Seq.{sets}
 use Rattle.io.specs.Digits.{glyph, digits, Fewest}
 use Rattle.strip.specs.Output.{onto}
-use Rattle.strip.proofs.Outputs.{sets-front}
+use Rattle.strip.proofs.Outputs.{sets-front, sets-append}
 use Rattle.ppm.specs.Text.{ascii, digit, decimalIn, decimal, twoNumbers}
 
 -- ---- one text behind another
-
-sets-append : (t : List ℕ) (i : ℕ) (ls bs : List ℕ) → sets (sets t i ls) (i + length ls) bs ≡ sets t i (ls ++ bs)
-sets-append t i [] bs = let e : i + 0 ≡ i = omega arith in rw e
-sets-append t i (l ∷ ls) bs = let e : i + suc (length ls) ≡ suc i + length ls = omega arith in rw e (sets-append _ (suc i) ls bs)
 
 -- bs put into t from i on, up to j, makes u
 abbrev Put : (t : List ℕ) (i : ℕ) (bs u : List ℕ) (j : ℕ) → Type 0

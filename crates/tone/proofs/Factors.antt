@@ -51,7 +51,7 @@ reciprocal M m =
 abbrev pub levelBy : (scale value power : ℕ) → ℕ
 levelBy s v p = min 255 ((s * v * p + 2 ^ 45) / 2 ^ 46)
 
-pub unlit-by : (s v p : ℕ) → s * v * p ≡ 0 → levelBy s v p ≡ 0
+unlit-by : (s v p : ℕ) → s * v * p ≡ 0 → levelBy s v p ≡ 0
 unlit-by s v p e = rw e
 
 -- the values of display luminance, luminance and channel

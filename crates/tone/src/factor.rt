@@ -75,23 +75,25 @@ pub fn factor(reciprocals: &[u64; 128], display: Stored, luminance: Stored) -> u
     scale + offset(display, luminance) * OFFSET_UNIT
 }
 
-fn at_most_255(level: u64) -> u8
-    ensures { λ r. ⌜ r ≡ min 255 level ⌝ }
-{
-    if level < 255 { level as u8 } else { 255 }
-}
-
-// Step 6: the level of a channel, given by its code, in a pixel with this factor. A factor of scale 0 gives level 0.
-pub fn level_by(powers: &[u64; 640], factor: u64, code: u16) -> u8
+// Step 6 up to its limit: the level of a channel, given by its code, in a pixel with this factor, before 255 is taken for more. A factor of
+// scale 0 gives level 0.
+pub fn wide_level(powers: &[u64; 640], factor: u64, code: u16) -> u16
     requires { ⌜ IsPowerTable (now powers) × IsCode code × (factor < 374 * 2 ^ 40) ⌝ }
     ensures lit { λ r.
         ⌜ ((d y : Stored) → IsMantissa (d .mantissa) → IsMantissa (y .mantissa) → factor ≡ factorOf d y
-        → r ≡ levelOf d (codeChannel code) y) ⌝ }
+        → min 255 r ≡ levelOf d (codeChannel code) y) ⌝ }
     ensures unlit { λ r. ⌜ (factor % 2 ^ 40 ≡ 0 → r ≡ 0) ⌝ }
 {
     let scale = factor % OFFSET_UNIT;
     let offset = (factor / OFFSET_UNIT) as usize;
     let exponent = (code / 256) as usize;
     let value = 2 * ((code % 256) as u64) + 1;
-    at_most_255((scale * value * powers[exponent + offset] + LEVEL_UNIT / 2) / LEVEL_UNIT)
+    ((scale * value * powers[exponent + offset] + LEVEL_UNIT / 2) / LEVEL_UNIT) as u16
+}
+
+// The limit of step 6.
+pub fn at_most_255(level: u16) -> u8
+    ensures { λ r. ⌜ r ≡ min 255 level ⌝ }
+{
+    if level < 255 { level as u8 } else { 255 }
 }

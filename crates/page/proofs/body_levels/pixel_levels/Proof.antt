@@ -3,14 +3,14 @@ use borrow.Author.Needs.{needs}
 use Rattle.page.proofs.body_levels.pixel_levels.Statement.{statement}
 use Rattle.page.proofs.body_levels.pixel_levels.Tie as tie
 
-level-by-requires : tie.Need-level-by-requires
-level-by-requires c κs = let pre = c .before .pre in (pre .0, rw (c .low-half .ensures) (pre .2), pre .1)
+wide-level-requires : tie.Need-wide-level-requires
+wide-level-requires c κs = let pre = c .before .pre in (pre .0, rw (c .low-half .ensures) (pre .2), pre .1)
 
-level-by-requires-2 : tie.Need-level-by-requires-2
-level-by-requires-2 c κs = let pre = c .before .before .before .pre in (pre .0, rw (c .low-half2 .ensures) (pre .3), pre .1)
+wide-level-requires-2 : tie.Need-wide-level-requires-2
+wide-level-requires-2 c κs = let pre = c .before .before .before .pre in (pre .0, rw (c .low-half2 .ensures) (pre .3), pre .1)
 
-level-by-requires-3 : tie.Need-level-by-requires-3
-level-by-requires-3 c κs =
+wide-level-requires-3 : tie.Need-wide-level-requires-3
+wide-level-requires-3 c κs =
     let pre = c .before .before .before .before .before .pre in
     (pre .0, rw (c .low-half3 .ensures) (pre .4), pre .1)
 
@@ -24,15 +24,15 @@ returns c =
     record {
       lit = λ d y md my e.
           rw (
-            rw (r′ .low-half .ensures) at (r .level-by .ensures .0 d y md my e),
-            rw (g′ .low-half2 .ensures) at (g .level-by2 .ensures .0 d y md my e),
-            rw (b .low-half3 .ensures) at (c .level-by3 .ensures .0 d y md my e),
+            rw (r′ .low-half .ensures) at (r .wide-level .ensures .0 d y md my e),
+            rw (g′ .low-half2 .ensures) at (g .wide-level2 .ensures .0 d y md my e),
+            rw (b .low-half3 .ensures) at (c .wide-level3 .ensures .0 d y md my e),
           );
-      unlit = λ e. rw (r .level-by .ensures .1 e, g .level-by2 .ensures .1 e, c .level-by3 .ensures .1 e);
+      unlit = λ e. rw (r .wide-level .ensures .1 e, g .wide-level2 .ensures .1 e, c .wide-level3 .ensures .1 e);
     }
 
 pub pixel-levels-spec : {M : Type 1} → statement M
 pixel-levels-spec =
     tie.close
     (tie.spec
-    (λ c κs. search needs) level-by-requires (λ c κs. search needs) level-by-requires-2 (λ c κs. search needs) level-by-requires-3 returns)
+    (λ c κs. search needs) wide-level-requires (λ c κs. search needs) wide-level-requires-2 (λ c κs. search needs) wide-level-requires-3 returns)

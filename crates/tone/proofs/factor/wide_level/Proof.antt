@@ -1,4 +1,4 @@
--- `tone::factor::level_by` meets its contract. Assumes nothing.
+-- `tone::factor::wide_level` meets its contract. Assumes nothing.
 use mathlib.Core.Path.{_≡_, _∙_, ap}
 use Prim.Native.Nat.{ℕ, _+_, _*_, _/_, _%_, _^_, _≤_}
 use native.Mathlib.Nat.{mul-le-mul}
@@ -6,10 +6,10 @@ use native.Mathlib.Omega.{arith}
 use lib.ListN.{getD}
 use borrow.Author.Needs.{needs}
 use Rattle.tone.specs.Factors.{powerAt}
-use Rattle.tone.proofs.Factors.{levelBy, unlit-by, level-by-factor}
+use Rattle.tone.proofs.Factors.{levelBy, level-by-factor}
 use Rattle.tone.proofs.Powers.{power-most}
-use Rattle.tone.proofs.factor.level_by.Statement.{statement}
-use Rattle.tone.proofs.factor.level_by.Tie as tie
+use Rattle.tone.proofs.factor.wide_level.Statement.{statement}
+use Rattle.tone.proofs.factor.wide_level.Tie as tie
 
 module _ (c : tie.Start) where
   abbrev factor : ℕ
@@ -39,15 +39,14 @@ module _ (c : tie.Start) where
 
 returns : tie.Need-returns
 returns c =
-    let s = c .before .before in
-    let e = c .at-most-255 .ensures in (
-      λ d y md my q. e ∙ ap (λ (p : ℕ). levelBy (scale s) (value s) p) (got s) ∙ level-by-factor d y md my _ _ q (s .pre .1),
-      λ q. e ∙ unlit-by (scale s) (value s) (power s) (rw q (omega arith)),
+    let s = c .before in (
+      λ d y md my q. ap (λ (p : ℕ). levelBy (scale s) (value s) p) (got s) ∙ level-by-factor d y md my _ _ q (s .pre .1),
+      λ q. let none : scale s * value s * power s ≡ 0 = rw q (omega arith) in omega arith,
     )
 
-pub level-by-spec : {M : Type 1} → statement M
-level-by-spec =
+pub wide-level-spec : {M : Type 1} → statement M
+wide-level-spec =
     tie.close
     (tie.spec (λ c. search needs) (λ c. search needs) (λ c. search needs) (λ c. search needs) (λ c. omega (arith, product c))
     (λ c. search needs) (λ c. search needs) (λ c. search needs)
-    (λ c. omega (arith, products (c .before))) (λ c. omega (arith, products (c .before))) (λ c κs. search needs) returns)
+    (λ c. omega (arith, products (c .before))) (λ c. omega (arith, products (c .before))) (λ c. omega (arith, products (c .before))) returns)
