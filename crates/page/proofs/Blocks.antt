@@ -72,8 +72,8 @@ module _ (K : ℕ) (a : Stored) (ws : List ℕ) (from n : ℕ) where
       ∙ rw (inv, levels (limited w) e, next) (sym (bytes-append (levelsOf K a) (take n ps) (p ∷ []))))
 
   -- a whole block
-  pub block-whole : {wide : List ℕ} → HoldsLevels K a ws from n wide → n ≡ 16 → limitedFront 48 wide ≡ blockLevels K a ws from n
-  block-whole {wide} h e = let m : 48 ≡ 3 * n = omega arith in ap (λ k. limitedFront k wide) m ∙ h .levels
+  pub block-whole : {wide : List ℕ} → HoldsLevels K a ws from n wide → n ≡ 64 → limitedFront 192 wide ≡ blockLevels K a ws from n
+  block-whole {wide} h e = let m : 192 ≡ 3 * n = omega arith in ap (λ k. limitedFront k wide) m ∙ h .levels
 
   -- ---- the block in the output
 

@@ -20,10 +20,10 @@ pub record AreTables (K : ℕ) (average : Stored) (powers reciprocals scaled : L
   pub reciprocal : IsReciprocalTable reciprocals
   pub scale : IsScaledTable K average scaled
 
--- n pixels of the words from number `from` on, at most 16, whose indices stand in the output
+-- n pixels of the words from number `from` on, at most 64, whose indices stand in the output
 pub record IsBlock (ws : List ℕ) (from n : ℕ) (output : List ℕ) : Type 0 where
   pub codes : AreCodes ws
-  pub short : n ≤ 16
+  pub short : n ≤ 64
   pub inside : from + n ≤ length ws / 3
   pub room : length ws ≤ length output
   pub indices : HoldsIndices from ws output
@@ -38,5 +38,5 @@ limitedFront n wide = map (min 255) (take n wide)
 
 -- the numbers of a block give its level bytes
 pub record HoldsLevels (K : ℕ) (average : Stored) (ws : List ℕ) (from n : ℕ) (wide : List ℕ) : Type 0 where
-  pub long : length wide ≡ 48
+  pub long : length wide ≡ 192
   pub levels : limitedFront (3 * n) wide ≡ blockLevels K average ws from n

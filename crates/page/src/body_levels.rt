@@ -35,7 +35,7 @@ use word::header::low_half;
 use word::header::pixel_count;
 
 // The most pixels of a block.
-const BLOCK_PIXELS: usize = 16;
+const BLOCK_PIXELS: usize = 64;
 
 // What stands for the factor of an unlit pixel: a number other than 0 that makes every level 0.
 const UNLIT: u64 = 1099511627776;
@@ -108,10 +108,10 @@ fn wide_levels(
     count: usize,
     output: &[u8],
     factors: &mut [u64; 15232],
-    wide: &mut [u16; 48],
+    wide: &mut [u16; 192],
 )
     requires { ⌜ AreTables key average (now powers) (now reciprocals) (now scaled) × IsBlock (now words) from count (now output)
-        × IsFactorTable key average (now factors) × (length (now wide) ≡ 48) ⌝ }
+        × IsFactorTable key average (now factors) × (length (now wide) ≡ 192) ⌝ }
     ensures levels { λ _. ⌜ HoldsLevels key average (now (words .entry)) from count (now (wide .exit)) ⌝ }
     ensures table { λ _. ⌜ IsFactorTable key average (now (factors .exit)) ⌝ }
 {
@@ -127,8 +127,8 @@ fn wide_levels(
 }
 
 // The first `count` levels with their limit, into the output from the index `at` on.
-fn limit_levels(wide: &[u16; 48], count: usize, at: usize, output: &mut [u8])
-    requires { ⌜ (count ≤ 48) × (at + count ≤ length (now output)) × (length (now wide) ≡ 48) ⌝ }
+fn limit_levels(wide: &[u16; 192], count: usize, at: usize, output: &mut [u8])
+    requires { ⌜ (count ≤ 192) × (at + count ≤ length (now output)) × (length (now wide) ≡ 192) ⌝ }
     ensures { λ _. ⌜ now (output .exit) ≡ sets (now (output .entry)) at (limitedFront count (now (wide .entry))) ⌝ }
 {
     let mut j: usize = 0;
@@ -150,14 +150,14 @@ fn fill_block(
     from: usize,
     count: usize,
     factors: &mut [u64; 15232],
-    wide: &mut [u16; 48],
+    wide: &mut [u16; 192],
     output: &mut [u8],
 )
     requires { ⌜ AreTables key average (now powers) (now reciprocals) (now scaled) × IsBlock (now words) from count (now output)
-        × IsFactorTable key average (now factors) × (length (now wide) ≡ 48) ⌝ }
+        × IsFactorTable key average (now factors) × (length (now wide) ≡ 192) ⌝ }
     ensures levels { λ _. ⌜ now (output .exit) ≡ sets (now (output .entry)) (3 * from) (blockLevels key average (now (words .entry)) from count) ⌝ }
     ensures table { λ _. ⌜ IsFactorTable key average (now (factors .exit)) ⌝ }
-    ensures long { λ _. ⌜ length (now (wide .exit)) ≡ 48 ⌝ }
+    ensures long { λ _. ⌜ length (now (wide .exit)) ≡ 192 ⌝ }
 {
     wide_levels(
         powers,
@@ -173,7 +173,7 @@ fn fill_block(
         wide,
     );
     if count == BLOCK_PIXELS {
-        limit_levels(wide, 48, 3 * from, output);
+        limit_levels(wide, 192, 3 * from, output);
     } else {
         limit_levels(wide, 3 * count, 3 * from, output);
     }
@@ -181,7 +181,7 @@ fn fill_block(
 
 // How many pixels the next block has, where so many are left.
 fn block_count(left: usize) -> usize
-    ensures { λ r. ⌜ r ≡ min 16 left ⌝ }
+    ensures { λ r. ⌜ r ≡ min 64 left ⌝ }
 {
     if left < BLOCK_PIXELS {
         left
@@ -199,7 +199,7 @@ fn fill_levels(words: &[u32], key: u64, average: Stored, output: &mut [u8])
     let reciprocals = reciprocal_table();
     let scaled = scaled_table(key, average);
     let mut factors = empty_table();
-    let mut wide = [0u16; 48];
+    let mut wide = [0u16; 192];
     let pixels = words.len() / 3;
     let mut p: usize = 0;
     while p < pixels {

@@ -26,8 +26,8 @@ pub struct WideLevels {
 }
 
 // The three numbers of a pixel, from the index `at` on.
-pub fn store_wide(levels: WideLevels, at: usize, wide: &mut [u16; 48])
-    requires { ⌜ at + 2 < 48 ⌝ }
+pub fn store_wide(levels: WideLevels, at: usize, wide: &mut [u16; 192])
+    requires { ⌜ at + 2 < 192 ⌝ }
     ensures { λ _. ⌜ now (wide .exit) ≡ set (set (set (now (wide .entry)) at (levels .red)) (at + 1) (levels .green)) (at + 2) (levels .blue) ⌝ }
 {
     wide[at] = levels.red;

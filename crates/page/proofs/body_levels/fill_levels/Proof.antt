@@ -21,7 +21,7 @@ abbrev Inv-loop : tie.InvT-loop
 Inv-loop words key average output₀ powers reciprocals scaled factors₀ wide₀ pixels p₀ output factors wide p =
     ((length output ≡ length output₀)
     × (filling (levelsOf key average) words p output ≡ onto (levelsUnder key average (wordPixels words)) output₀))
-    × (HoldsIndices p words output × IsFactorTable key average factors × (length wide ≡ 48))
+    × (HoldsIndices p words output × IsFactorTable key average factors × (length wide ≡ 192))
 
 abbrev μ-loop : tie.MeasureT-loop
 μ-loop words key average output₀ powers reciprocals scaled factors₀ wide₀ pixels p₀ output factors wide p = pixels - p

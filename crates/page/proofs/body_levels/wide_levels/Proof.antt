@@ -17,7 +17,7 @@ use Rattle.page.proofs.body_levels.wide_levels.Tie as tie
 
 abbrev Inv-loop : tie.InvT-loop
 Inv-loop powers reciprocals scaled key average words from count output factors₀ wide₀ j₀ factors wide j =
-    (j ≤ count) × (length wide ≡ 48) × (limitedFront (3 * j) wide ≡ blockLevels key average words from j)
+    (j ≤ count) × (length wide ≡ 192) × (limitedFront (3 * j) wide ≡ blockLevels key average words from j)
     × IsFactorTable key average factors
 
 abbrev μ-loop : tie.MeasureT-loop
