@@ -101,15 +101,6 @@ black-or-lit n (Lit E M) h =
     let mantissa : M ≡ n % 256 = omega arith in
     inr (ap₂ Lit exponent mantissa, subst₂ IsLit exponent mantissa valid)
 
--- three black channels at the exponent of green have the sum 100 · 2^24
-cut-black : {s t k : ℕ} → IsCut s t k → s ≡ 100 * 2 ^ 24 → t ≡ 6400
-cut-black {s} {t} {k} c e = by (decLe k 17) (decLe 19 k)
-  where
-    by : Dec (k ≤ 17) → Dec (19 ≤ k) → t ≡ 6400
-    by (yes h) _ = absurd (omega (arith, mul-le-mul {n₂ = 8192} {m₂ = 2 ^ 17} (c .most) (pow-mono h)))
-    by (no g) (yes h) = absurd (omega (arith, mul-le-mul {n₁ = 4096} {m₁ = 2 ^ 19} (c .least) (pow-mono h)))
-    by (no g) (no h) = let same : k ≡ 18 = omega arith in omega (arith, rw same at (c .low), rw same at (c .high))
-
 -- the sum times 2^e, where e moves each weight to the exponent of its channel
 gather : (r g b X Y Z E E′ E″ e s : ℕ) → s ≡ r * (27 * 2 ^ X) + g * (67 * 2 ^ Y) + b * (6 * 2 ^ Z)
     → X + e ≡ E → Y + e ≡ E′ → Z + e ≡ E″
@@ -163,16 +154,9 @@ module _ (p : Pixel) {m n l x z s : ℕ} (y : ℕ) (red : Coded m (p .red)) (gre
 module _ (p : Pixel) {m n l x z s t k : ℕ} (red : Coded m (p .red)) (green : Coded n (p .green)) (blue : Coded l (p .blue))
     (rx : (x < 48) × (x + n / 256 ≡ m / 256 + 24)) (bz : (z < 48) × (z + n / 256 ≡ l / 256 + 24))
     (sum : s ≡ (2 * (m % 256) + 1) * (27 * 2 ^ x) + (2 * (n % 256) + 1) * (67 * 2 ^ 24) + (2 * (l % 256) + 1) * (6 * 2 ^ z))
-    (c : IsCut s t k) (other : t ≡ 6400 → ⊥) where
-  -- three black channels have the digits 6400
-  some-lit : m ≡ 0 → n ≡ 0 → l ≡ 0 → ⊥
-  some-lit h h′ h″ =
-      let at-24 : x ≡ 24 = omega arith in
-      let at-24′ : z ≡ 24 = omega arith in
-      other (cut-black c (sum ∙ rw (at-24, at-24′, h, h′, h″)))
-
+    (some : m ≡ 0 → n ≡ 0 → l ≡ 0 → ⊥) (c : IsCut s t k) (other : t ≡ 6400 → ⊥) where
   green-lit : LitAt n (p .green)
-  green-lit = all-lit p 24 red green blue rx bz (omega arith) sum some-lit .1
+  green-lit = all-lit p 24 red green blue rx bz (omega arith) sum some .1
 
   fits : 93 ≤ k + n / 256
   fits = by (decLe 21 k)
@@ -192,8 +176,22 @@ module _ (p : Pixel) {m n l x z s t k : ℕ} (red : Coded m (p .red)) (green : C
   pixel-index = (
     fits,
     cut-index c (n / 256 - 24) (k + n / 256 - 93) (omega (arith, fits, green-lit .1 .least)) other
-        ∙ sum-index p 24 red green blue rx bz (omega arith) sum some-lit,
+        ∙ sum-index p 24 red green blue rx bz (omega arith) sum some,
   )
+
+-- ---- three black channels
+
+black-code : (c : Channel) {n : ℕ} → Coded n c → n ≡ 0 → c ≡ Black
+black-code Black h e = refl
+black-code (Lit E M) {n} h e =
+    let code : 256 * E + M ≡ n = h .code in
+    let valid : IsLit E M = h .valid in
+    absurd (omega (arith, valid .least))
+
+pub black-index : (p : Pixel) {m n l : ℕ} → Coded m (p .red) → Coded n (p .green) → Coded l (p .blue) → m ≡ 0 → n ≡ 0 → l ≡ 0
+    → 0 ≡ indexOf (luminanceOf p)
+unfolding luminanceOf
+black-index p red green blue h h′ h″ = rw (black-code (p .red) red h, black-code (p .green) green h′, black-code (p .blue) blue h″)
 
 -- ---- channels near one another, by the quotient of the sum
 

@@ -78,6 +78,9 @@ fn cut_index(digits: u32, shift: u64, green: u64) -> u64
     128 * (shift + green - 93) + least as u64
 }
 
+// The index of an unlit pixel.
+const UNLIT: u64 = 0;
+
 // The channel of a code.
 fn code_channel(code: u16) -> Channel
     ensures { λ r. ⌜ r ≡ codeChannel code ⌝ }
@@ -108,7 +111,7 @@ fn general_index(red: u16, green: u16, blue: u16) -> u64
 {
     let luminance = code_luminance(red, green, blue);
     let Luminance::Lit(stored) = luminance else {
-        return 0;
+        return UNLIT;
     };
     128 * (stored.exponent as u64 - 66) + (stored.mantissa as u64 - 128)
 }
@@ -118,6 +121,9 @@ pub fn luminance_index(reds: &[u64; 48], blues: &[u64; 48], red: u16, green: u16
     requires { ⌜ IsWeightTable 27 (now reds) × IsWeightTable 6 (now blues) × IsCode red × IsCode green × IsCode blue ⌝ }
     ensures { λ r. ⌜ r ≡ indexOf (luminanceOf (codePixel red green blue)) ⌝ }
 {
+    if red as u32 + green as u32 + blue as u32 == 0 {
+        return UNLIT;
+    }
     let green_exponent = (green / 256) as u64;
     let r = place_of((red / 256) as u64, green_exponent);
     let b = place_of((blue / 256) as u64, green_exponent);
