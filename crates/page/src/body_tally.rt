@@ -1,6 +1,6 @@
 // An accepted strip tallied, pixel by pixel; where an output is lent, it keeps each pixel's luminance for the levels.
 ghost use mathlib.Core.Path.{_≡_};
-ghost use Prim.Native.Nat.{_+_, _/_, _^_, _≤_, _<_};
+ghost use Prim.Native.Nat.{_+_, _/_, _^_, _≤_, _<_, min};
 ghost use lib.ListN.{length};
 ghost use Rattle.refusal.specs.declared.Verdict.{Verdict};
 ghost use Rattle.number.specs.Channels.{IsCode};
@@ -117,7 +117,19 @@ fn index_part(
     tally
 }
 
-// The tally of channel words, with the indices in an output that has room: whole blocks, then the rest.
+// The end of the block that begins with pixel p.
+fn block_end(p: usize, pixels: usize) -> usize
+    requires { ⌜ p < pixels ⌝ }
+    ensures { λ r. ⌜ r ≡ min (p + 16) pixels ⌝ }
+{
+    if pixels - p < BLOCK {
+        pixels
+    } else {
+        p + BLOCK
+    }
+}
+
+// The tally of channel words, with the indices in an output that has room. Near indices are worked out for whole blocks.
 fn index_pixels(words: &[u32], output: &mut [u8]) -> Tally
     requires { ⌜ AreCodes (now words) × (length (now words) ≤ 2 ^ 40) ⌝ }
     ensures tally { λ r. ⌜ r ≡ tallyOf (luminancesOf (wordPixels (now (words .entry)))) ⌝ }
@@ -127,36 +139,18 @@ fn index_pixels(words: &[u32], output: &mut [u8]) -> Tally
     let reds = weight_table(27);
     let blues = weight_table(6);
     let pixels = words.len() / 3;
-    let mut near = [0u16; 16];
     let mut tally = no_luminance();
-    let mut from: usize = 0;
-    while BLOCK <= pixels - from {
-        near_indices(words, from, &mut near);
-        tally = index_part(
-            &logs,
-            &reds,
-            &blues,
-            &near,
-            words,
-            from,
-            from + BLOCK,
-            tally,
-            output,
-        );
-        from += BLOCK;
+    let mut p: usize = 0;
+    while p < pixels {
+        let end = block_end(p, pixels);
+        let mut near = [0u16; 16];
+        if end - p == BLOCK {
+            near_indices(words, p, &mut near);
+        }
+        tally = index_part(&logs, &reds, &blues, &near, words, p, end, tally, output);
+        p = end;
     }
-    let none = [0u16; 16];
-    index_part(
-        &logs,
-        &reds,
-        &blues,
-        &none,
-        words,
-        from,
-        pixels,
-        tally,
-        output,
-    )
+    tally
 }
 
 // The tally of an accepted strip.
