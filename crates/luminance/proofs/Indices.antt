@@ -43,7 +43,7 @@ index-range y h = (omega arith, omega arith)
 -- ---- a hundredth of a number s
 
 -- in units, times 2^e
-scaled-stored : (s e j M E : ℕ) → E + 9 ≡ e + j → Scales (s over 100) 0 j M
+pub scaled-stored : (s e j M E : ℕ) → E + 9 ≡ e + j → Scales (s over 100) 0 j M
     → storedOf (s * 2 ^ e over 100 * unit) ≡ record { exponent = E; mantissa = M }
 scaled-stored s e j M E h m =
     stored-as
@@ -89,7 +89,7 @@ module _ {s t k : ℕ} (c : IsCut s t k) where
 -- ---- the sum of three channels
 
 -- c is lit with the exponent and the mantissa of the code n
-abbrev LitAt : (n : ℕ) (c : Channel) → Type 0
+abbrev pub LitAt : (n : ℕ) (c : Channel) → Type 0
 LitAt n c = (c ≡ Lit (n / 256) (n % 256)) × IsLit (n / 256) (n % 256)
 
 black-or-lit : (n : ℕ) (c : Channel) → Coded n c → (n ≡ 0) ⊎ LitAt n c
@@ -128,7 +128,7 @@ module _ (p : Pixel) {m n l x z s : ℕ} (y : ℕ) (red : Coded m (p .red)) (gre
     (sum : s ≡ (2 * (m % 256) + 1) * (27 * 2 ^ x) + (2 * (n % 256) + 1) * (67 * 2 ^ y) + (2 * (l % 256) + 1) * (6 * 2 ^ z))
     (some : m ≡ 0 → n ≡ 0 → l ≡ 0 → ⊥) where
   -- a black channel is too far from a lit one
-  all-lit : LitAt m (p .red) × LitAt n (p .green) × LitAt l (p .blue)
+  pub all-lit : LitAt m (p .red) × LitAt n (p .green) × LitAt l (p .blue)
   all-lit = by (black-or-lit m (p .red) red) (black-or-lit n (p .green) green) (black-or-lit l (p .blue) blue)
     where
       by : (m ≡ 0) ⊎ LitAt m (p .red) → (n ≡ 0) ⊎ LitAt n (p .green) → (l ≡ 0) ⊎ LitAt l (p .blue)
@@ -141,7 +141,7 @@ module _ (p : Pixel) {m n l x z s : ℕ} (y : ℕ) (red : Coded m (p .red)) (gre
       by (inl r) (inl g) (inl b) = absurd (some r g b)
 
   -- the index of the sum's hundredth is that of the luminance
-  sum-index : indexOf (Luminance.Lit (storedOf (s * 2 ^ (n / 256 - y) over 100 * unit))) ≡ indexOf (luminanceOf p)
+  pub sum-index : indexOf (Luminance.Lit (storedOf (s * 2 ^ (n / 256 - y) over 100 * unit))) ≡ indexOf (luminanceOf p)
   sum-index =
       let least = all-lit .1 .1 .least in
       ap (λ (n : ℕ). indexOf (Luminance.Lit (storedOf (n over 100 * unit))))
@@ -192,76 +192,3 @@ pub black-index : (p : Pixel) {m n l : ℕ} → Coded m (p .red) → Coded n (p 
     → 0 ≡ indexOf (luminanceOf p)
 unfolding luminanceOf
 black-index p red green blue h h′ h″ = rw (black-code (p .red) red h, black-code (p .green) green h′, black-code (p .blue) blue h″)
-
--- ---- channels near one another, by the quotient of the sum
-
--- of a quotient from 128 on, j octaves up with the mantissa M
-abbrev pub octaves : (q : ℕ) → ℕ
-octaves q = min (min q (q / 2 + 128)) (min (q / 4 + 256) (q / 8 + 384))
-
-record InOctave (q j M : ℕ) : Type 0 where
-  pub index : octaves q ≡ 128 * j + M
-  pub floor : M * 2 ^ j ≤ q
-  pub ceiling : q < (M + 1) * 2 ^ j
-  pub least : 128 ≤ M
-  pub most : M ≤ 255
-
-record Octave (q : ℕ) : Type 0 where
-  pub j : ℕ
-  pub M : ℕ
-  pub within : InOctave q j M
-
-octave-of : (q : ℕ) → 128 ≤ q → q < 2048 → Octave q
-octave-of q low high = by (decLe 256 q) (decLe 512 q) (decLe 1024 q)
-  where
-    in-octave : (j M : ℕ) → octaves q ≡ 128 * j + M → M * 2 ^ j ≤ q → q < (M + 1) * 2 ^ j → 128 ≤ M → M ≤ 255 → Octave q
-    in-octave j M index floor ceiling least most =
-        record { j = j; M = M; within = record { index = index; floor = floor; ceiling = ceiling; least = least; most = most } }
-
-    by : Dec (256 ≤ q) → Dec (512 ≤ q) → Dec (1024 ≤ q) → Octave q
-    by (no a) _ _ = in-octave 0 q (omega arith) (omega arith) (omega arith) (omega arith) (omega arith)
-    by (yes a) (no b) _ = in-octave 1 (q / 2) (omega arith) (omega arith) (omega arith) (omega arith) (omega arith)
-    by (yes a) (yes b) (no c) = in-octave 2 (q / 4) (omega arith) (omega arith) (omega arith) (omega arith) (omega arith)
-    by (yes a) (yes b) (yes c) = in-octave 3 (q / 8) (omega arith) (omega arith) (omega arith) (omega arith) (omega arith)
-
--- an index i that is no multiple of 128, with green's exponent E
-octave-placed : (i E j M : ℕ) → i < 2 ^ 16 → (i + 8704) % 2 ^ 16 ≡ 128 * E + (128 * j + M) → 128 ≤ M → 72 ≤ E → (i % 128 ≡ 0 → ⊥)
-    → (128 < M) × (E - 67 + 63 ≡ E - 4) × (i ≡ 128 * (E - 67 + j) + (M - 128))
-octave-placed i E j M fits e least low other = (lt-of-not-le (λ g. other (omega arith)), omega arith, omega arith)
-
--- The mantissa 128 is left out: a hundred times a power of two seems to have it, and has the greatest of the octave below.
-octave-index : (s q e d : ℕ) → q ≡ s / 64 / 25 → d + 63 ≡ e → (o : Octave q) → 128 < o .M
-    → 128 * (d + o .j) + (o .M - 128) ≡ indexOf (Luminance.Lit (storedOf (s * 2 ^ e over 100 * unit)))
-octave-index s q e d quotient h o above =
-    let j = o .j in
-    let M = o .M in
-    let w = o .within in
-    let power = pow-add 2 12 j in
-    let half : 100 * 2 ^ (12 + j) < 2 * s = omega (arith, power, pow-pos j, w .floor, mul-le-mul-right (2 ^ j) above) in
-    let floor : M * (100 * 2 ^ (12 + j)) ≤ 256 * s = rw power (omega (arith, w .floor)) in
-    let ceiling : 256 * s < (M + 1) * (100 * 2 ^ (12 + j)) = rw power (omega (arith, w .ceiling)) in
-    ap (λ (x : ℕ). 128 * x + (M - 128)) {x = d + j} {y = d + j + 66 - 66} (omega arith)
-    ∙ sym (ap (λ (y : Stored). indexOf (Luminance.Lit y))
-    (scaled-stored s e (12 + j) M (d + j + 66) (omega arith)
-    (record { normalised = cell (omega (arith, half)) (w .most) (omega (arith, floor)) (omega (arith, ceiling)) })))
-
-module _ (p : Pixel) {m n l x z s : ℕ} (red : Coded m (p .red)) (green : Coded n (p .green)) (blue : Coded l (p .blue))
-    (rx : (x < 8) × (x + n / 256 ≡ m / 256 + 4)) (bz : (z < 8) × (z + n / 256 ≡ l / 256 + 4))
-    (sum : s ≡ (2 * (m % 256) + 1) * (27 * 2 ^ (x % 8)) + (2 * (n % 256) + 1) * (67 * 2 ^ 4) + (2 * (l % 256) + 1) * (6 * 2 ^ (z % 8)))
-    (small : s < 2048 * 1600) (lit : n / 256 ≡ 0 → ⊥) where
-  pub near-index : (i : ℕ) → i < 2 ^ 16 → (i + 8704) % 2 ^ 16 ≡ 128 * (n / 256) + octaves (s / 64 / 25) → (i % 128 ≡ 0 → ⊥)
-      → i ≡ indexOf (luminanceOf p)
-  near-index i fits e other =
-      let rx′ : (x < 48) × (x + n / 256 ≡ m / 256 + 4) = (omega arith, rx .1) in
-      let bz′ : (z < 48) × (z + n / 256 ≡ l / 256 + 4) = (omega arith, bz .1) in
-      let ex : x % 8 ≡ x = omega arith in
-      let ez : z % 8 ≡ z = omega arith in
-      let total = rw (ex, ez) at sum in
-      let some : m ≡ 0 → n ≡ 0 → l ≡ 0 → ⊥ = λ h h′ h″. lit (omega arith) in
-      let green-lit = all-lit p 4 red green blue rx′ bz′ (omega arith) total some .1 .1 in
-      let o = octave-of (s / 64 / 25) (omega (arith, sum, green-lit .mantissa .least)) (omega arith) in
-      let placed = octave-placed i (n / 256) (o .j) (o .M) fits (e ∙ ap (λ (v : ℕ). 128 * (n / 256) + v) (o .within .index)) (o .within .least)
-      (green-lit .least) other in
-      placed .2
-      ∙ octave-index s (s / 64 / 25) (n / 256 - 4) (n / 256 - 67) refl (placed .1) o (placed .0)
-      ∙ sum-index p 4 red green blue rx′ bz′ (omega arith) total some

@@ -8,3 +8,4 @@ pub mod CutSums
 pub mod Luminances
 -- the index of a luminance
 pub mod Indices
+pub mod Octaves

@@ -2,7 +2,7 @@
 use borrow.Author.Needs.{needs}
 use mathlib.Core.Logic.{⊎-elim}
 use native.Mathlib.Omega.{arith}
-use Rattle.luminance.proofs.Indices.{near-index}
+use Rattle.luminance.proofs.Octaves.{near-index}
 use Rattle.luminance.proofs.near.near_index.Statement.{statement}
 use Rattle.luminance.proofs.near.near_index.Tie as tie
 
