@@ -17,8 +17,8 @@ use Rattle.word.specs.declared.header.Header.{Header}
 use Rattle.word.specs.Words.{pixels, sizeFits, keyFits, sizeWord, keyWord, bodyWords, endWord, endIndex, stripLength, stripOf}
 use Rattle.number.specs.Channels.{channelIn}
 use Rattle.word.specs.Placing.{Placed, firstRefusal, channelsOf}
-use Rattle.strip.specs.Output.{onto, after}
-use Rattle.strip.proofs.Outputs.{sets-front}
+use Rattle.refusal.specs.Output.{onto, after}
+use Rattle.refusal.proofs.Outputs.{sets-front}
 use Rattle.word.proofs.Walks.{length-placed, length-words}
 use Rattle.convert.specs.Formats.{Format, rgbe, half, single, stored, perPixel, rgbePixels, decodedSource}
 use Rattle.convert.specs.Converting.{checkPage, checkSource, converted}

@@ -1,7 +1,7 @@
 // What stands before the levels in a picture.
 ghost use mathlib.Core.Path.{_≡_};
 ghost use lib.ListN.{length};
-ghost use Rattle.strip.specs.Output.{onto};
+ghost use Rattle.refusal.specs.Output.{onto};
 ghost use Rattle.ppm.specs.Answers.{frontOf};
 use ppm::text::front;
 

@@ -2,7 +2,7 @@
 ghost use mathlib.Core.Path.{_≡_};
 ghost use lib.ListN.{length};
 ghost use Rattle.refusal.specs.Verdicts.{reportOf};
-ghost use Rattle.strip.specs.Output.{after};
+ghost use Rattle.refusal.specs.Output.{after};
 ghost use Rattle.convert.specs.Formats.{rgbe, half, single, stored};
 ghost use Rattle.convert.specs.Converting.{checkSource, converted};
 ghost use Rattle.dofnihet.specs.Answers.{headerFrom};

@@ -3,7 +3,7 @@ ghost use mathlib.Core.Path.{_≡_};
 ghost use lib.ListN.{length};
 ghost use Rattle.refusal.specs.Verdicts.{reportOf};
 ghost use Rattle.strip.specs.Checks.{checkStrip, checkOutput};
-ghost use Rattle.strip.specs.Output.{after};
+ghost use Rattle.refusal.specs.Output.{after};
 ghost use Rattle.strip.specs.Reading.{readHeader, stripCodes};
 ghost use Rattle.dofnihet.specs.Answers.{headerAnswer};
 use refusal::Outcome;

@@ -11,7 +11,7 @@ use Rattle.number.specs.Sources.{channelOfValue, halfValue, singleValue, rgbeVa
 use Rattle.refusal.specs.declared.Refusal.{Refusal}
 use Rattle.refusal.specs.Refusals.{outcomeOf}
 use Rattle.strip.specs.Checks.{channelCount, checkOutput}
-use Rattle.strip.specs.Output.{after}
+use Rattle.refusal.specs.Output.{after}
 use Rattle.convert.specs.Formats.{Format}
 use Rattle.convert.specs.Converting.{converted}
 use Rattle.average.specs.declared.average.Average.{Average}

@@ -8,7 +8,7 @@ use lib.ListN.{length, getD, set, take, drop, length-map, length-set, length-dro
 use lib.Seq.{sets, length-sets, length-take-le, take-suc, take-suc-set, drop-drop, getD-drop, getD-take}
 use Rattle.number.specs.declared.channel.Pixel.{Pixel}
 use Rattle.number.specs.declared.ratio.Stored.{Stored}
-use Rattle.strip.proofs.Outputs.{sets-append, sets-behind}
+use Rattle.refusal.proofs.Outputs.{sets-append, sets-behind}
 use Rattle.word.specs.Pixels.{wordPixels}
 use Rattle.word.proofs.Pixels.{length-word-pixels, pixelAt, pixel-at}
 use Rattle.page.specs.declared.levels.Levels.{Levels}

@@ -13,7 +13,7 @@ use Rattle.refusal.specs.declared.Refusal.{Refusal}
 use Rattle.refusal.specs.declared.Verdict.{Verdict}
 use Rattle.refusal.specs.declared.Verdict.the-variants.{Accepted, Refused}
 use Rattle.strip.specs.Checks.{headerFields, checkStrip, checkOutput}
-use Rattle.strip.specs.Output.{onto, after}
+use Rattle.refusal.specs.Output.{onto, after}
 use Rattle.strip.specs.Reading.{stripPixels}
 use Rattle.strip.proofs.Limits.{Whole, whole-strip, output-strip}
 use Rattle.average.specs.declared.average.Average.{Average}

@@ -15,7 +15,7 @@ use Rattle.word.specs.Placing.{placed, firstRefusal}
 use Rattle.word.specs.Pixels.{wordPixels, wordChannel}
 use Rattle.word.proofs.Decoding.{holds, is-word}
 use Rattle.word.proofs.Pixels.{word-channel, length-word-pixels, pixelAt, pixel-at}
-use Rattle.strip.specs.Output.{onto}
+use Rattle.refusal.specs.Output.{onto}
 use Rattle.luminance.specs.declared.pixel.Luminance.{Luminance}
 use Rattle.luminance.specs.declared.pixel.Luminance.the-variants.{Unlit, Lit}
 use Rattle.luminance.specs.Codes.{indexOf, indexCount}

@@ -13,7 +13,7 @@ use Rattle.number.proofs.Laws.{Every}
 use Rattle.word.specs.Words.{pixels}
 use Rattle.word.proofs.Limits.{size-limits, key-limits}
 use Rattle.strip.specs.Checks.{headerFields, bodyPart}
-use Rattle.strip.specs.Output.{onto}
+use Rattle.refusal.specs.Output.{onto}
 use Rattle.strip.specs.Reading.{stripPixels}
 use Rattle.strip.proofs.Limits.{Whole}
 use Rattle.strip.proofs.Bodies.{pixels-in}

@@ -7,7 +7,7 @@ ghost use lib.Seq.{sets};
 ghost use Rattle.refusal.specs.declared.Verdict.{Verdict};
 ghost use Rattle.number.specs.Channels.{IsCode};
 ghost use Rattle.strip.specs.Checks.{headerFields, bodyPart, channelCount, checkStrip};
-ghost use Rattle.strip.specs.Output.{onto};
+ghost use Rattle.refusal.specs.Output.{onto};
 ghost use Rattle.strip.specs.Reading.{stripPixels};
 ghost use Rattle.tone.specs.Factors.{IsPowerTable, IsReciprocalTable};
 ghost use Rattle.tone.specs.Levels.{IsKey};

@@ -5,7 +5,7 @@ ghost use lib.ListN.{length};
 ghost use Rattle.refusal.specs.declared.Verdict.{Verdict};
 ghost use Rattle.number.specs.Channels.{IsCode};
 ghost use Rattle.strip.specs.Checks.{channelCount, checkStrip};
-ghost use Rattle.strip.specs.Output.{onto};
+ghost use Rattle.refusal.specs.Output.{onto};
 ghost use Rattle.strip.specs.Reading.{stripPixels};
 ghost use Rattle.average.specs.Averages.{IsSum};
 ghost use Rattle.luminance.specs.Codes.{IsWeightTable, IsNear, indexOf, indexCount};

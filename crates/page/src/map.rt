@@ -2,7 +2,7 @@
 ghost use mathlib.Core.Path.{_≡_};
 ghost use lib.ListN.{length};
 ghost use Rattle.strip.specs.Checks.{checkOutput};
-ghost use Rattle.strip.specs.Output.{after};
+ghost use Rattle.refusal.specs.Output.{after};
 ghost use Rattle.page.specs.Mapping.{stripLevels};
 ghost use Rattle.page.specs.Claims.{MapPromise};
 use crate::body_levels::body_levels;

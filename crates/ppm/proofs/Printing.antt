@@ -16,7 +16,7 @@ use Rattle.refusal.specs.declared.Verdict.the-variants.{Accepted, Refused}
 use Rattle.refusal.specs.Verdicts.{reportOf, andThen}
 use Rattle.word.specs.Words.{pixels}
 use Rattle.strip.specs.Checks.{headerFields, checkStrip, checkOutput}
-use Rattle.strip.specs.Output.{onto, after}
+use Rattle.refusal.specs.Output.{onto, after}
 use Rattle.strip.proofs.Limits.{room-enough, whole-strip}
 use Rattle.page.specs.Mapping.{stripLevels}
 use Rattle.page.proofs.Strips.{length-levels}

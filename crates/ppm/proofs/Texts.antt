@@ -10,8 +10,8 @@ use lib.Dec.{ltb, leb}
 use lib.ListN.{length, length-append}
 use lib.Seq.{sets}
 use Rattle.io.specs.Digits.{glyph, digits, Fewest}
-use Rattle.strip.specs.Output.{onto}
-use Rattle.strip.proofs.Outputs.{sets-front, sets-append}
+use Rattle.refusal.specs.Output.{onto}
+use Rattle.refusal.proofs.Outputs.{sets-front, sets-append}
 use Rattle.ppm.specs.Text.{ascii, digit, decimalIn, decimal, twoNumbers}
 
 -- ---- one text behind another

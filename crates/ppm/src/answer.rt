@@ -5,7 +5,7 @@ ghost use mathlib.Core.List.{_++_};
 ghost use lib.ListN.{length, take};
 ghost use Rattle.io.specs.Counts.{Counts};
 ghost use Rattle.refusal.specs.Verdicts.{reportOf};
-ghost use Rattle.strip.specs.Output.{onto, after};
+ghost use Rattle.refusal.specs.Output.{onto, after};
 ghost use Rattle.ppm.specs.Words.{littleEndian, checkBytes};
 ghost use Rattle.ppm.specs.Answers.{printedRefusal, printedOf, printedFor, bytesOf, countsOf};
 use crate::put::put;

@@ -3,7 +3,7 @@ ghost use Prim.Native.Nat.{_+_, _≤_};
 ghost use mathlib.Core.Path.{_≡_};
 ghost use lib.ListN.{length};
 ghost use lib.Seq.{sets};
-ghost use Rattle.strip.specs.Output.{onto};
+ghost use Rattle.refusal.specs.Output.{onto};
 ghost use Rattle.ppm.specs.Text.{decimal, twoNumbers};
 
 pub fn put(text: &[u8], at: usize, output: &mut [u8]) -> usize

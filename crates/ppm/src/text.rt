@@ -1,7 +1,7 @@
 // The texts of an answer, each into the front of an output that has room for the longest, 50 bytes.
 ghost use mathlib.Core.Path.{_≡_};
 ghost use lib.ListN.{length};
-ghost use Rattle.strip.specs.Output.{onto};
+ghost use Rattle.refusal.specs.Output.{onto};
 ghost use Rattle.ppm.specs.Answers.{frontOf, refusedText};
 use crate::put::put_numbers;
 

@@ -2,7 +2,7 @@
 ghost use Prim.Native.Nat.{_≤_, _/_};
 ghost use mathlib.Core.Path.{_≡_};
 ghost use lib.ListN.{length};
-ghost use Rattle.strip.specs.Output.{onto, after};
+ghost use Rattle.refusal.specs.Output.{onto, after};
 ghost use Rattle.ppm.specs.Words.{wordOfBytes, littleEndian, checkBytes};
 use refusal::Refusal;
 use refusal::Verdict;

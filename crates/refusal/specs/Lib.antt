@@ -1,2 +1,3 @@
 pub mod Refusals
 pub mod Verdicts
+pub mod Output

@@ -1,4 +1,3 @@
 pub mod Limits
 pub mod Bodies
-pub mod Outputs
 pub mod RoundTrip

@@ -1,4 +1,3 @@
 pub mod Checks
 pub mod Holding
 pub mod Reading
-pub mod Output

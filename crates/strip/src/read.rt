@@ -6,7 +6,7 @@ ghost use lib.ListN.{length};
 ghost use Rattle.word.specs.Fields.{low16};
 ghost use Rattle.strip.specs.Checks.{checkOutput};
 ghost use Rattle.strip.specs.Reading.{readHeader, stripCodes};
-ghost use Rattle.strip.specs.Output.{onto, after};
+ghost use Rattle.refusal.specs.Output.{onto, after};
 use crate::check::check;
 use crate::check::check_output;
 use refusal::Refusal;

@@ -3,8 +3,8 @@ use borrow.Author.Needs.{needs}
 use Prim.Native.Nat.{_-_}
 use mathlib.Core.Path.{_≡_, refl, _∙_}
 use lib.ListN.{length, replicate, length-replicate, getD-replicate}
-use Rattle.strip.specs.Output.{onto}
-use Rattle.strip.proofs.Outputs.{sets-front}
+use Rattle.refusal.specs.Output.{onto}
+use Rattle.refusal.proofs.Outputs.{sets-front}
 use Rattle.word.proofs.Walks.{storing, storing-all, storing-next, storing-done}
 use Rattle.page.proofs.body_levels.clear_levels.Statement.{statement}
 use Rattle.page.proofs.body_levels.clear_levels.Tie as tie

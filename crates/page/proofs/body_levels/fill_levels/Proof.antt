@@ -5,8 +5,8 @@ use Prim.Native.Nat.{_+_, _-_, _/_, _≤_}
 use mathlib.Core.Path.{_≡_, refl, _∙_}
 use native.Mathlib.Omega.{arith}
 use lib.ListN.{length}
-use Rattle.strip.specs.Output.{onto}
-use Rattle.strip.proofs.Outputs.{sets-front}
+use Rattle.refusal.specs.Output.{onto}
+use Rattle.refusal.proofs.Outputs.{sets-front}
 use Rattle.word.specs.Pixels.{wordPixels}
 use Rattle.page.specs.FactorTables.{IsFactorTable}
 use Rattle.page.specs.Indices.{HoldsIndices}

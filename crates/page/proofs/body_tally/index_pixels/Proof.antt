@@ -6,8 +6,8 @@ use mathlib.Core.Path.{_≡_, refl, _∙_}
 use mathlib.Core.Logic.{⊎-elim}
 use native.Mathlib.Omega.{arith}
 use lib.ListN.{length}
-use Rattle.strip.specs.Output.{onto}
-use Rattle.strip.proofs.Outputs.{sets-front}
+use Rattle.refusal.specs.Output.{onto}
+use Rattle.refusal.proofs.Outputs.{sets-front}
 use Rattle.word.specs.Pixels.{wordPixels}
 use Rattle.page.specs.Indices.{indexed, indexBytes}
 use Rattle.page.specs.Parts.{tallied, filling}

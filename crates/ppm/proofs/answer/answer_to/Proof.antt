@@ -6,8 +6,8 @@ use native.Mathlib.Omega.{arith}
 use lib.ListN.{length, take}
 use denote.Ref.{now}
 use Rattle.refusal.specs.Verdicts.{reportOf}
-use Rattle.strip.specs.Output.{after}
-use Rattle.strip.proofs.Outputs.{sets-front}
+use Rattle.refusal.specs.Output.{after}
+use Rattle.refusal.proofs.Outputs.{sets-front}
 use Rattle.ppm.specs.Text.{ascii}
 use Rattle.ppm.specs.Words.{littleEndian, checkBytes}
 use Rattle.ppm.specs.Answers.{textAlone, printedRefusal, printedFor}

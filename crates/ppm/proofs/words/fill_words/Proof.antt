@@ -4,8 +4,8 @@ use Prim.Native.Nat.{_-_, _/_, _<_}
 use mathlib.Core.Path.{_≡_, refl, sym, _∙_}
 use native.Mathlib.Omega.{arith}
 use lib.ListN.{length}
-use Rattle.strip.specs.Output.{onto}
-use Rattle.strip.proofs.Outputs.{sets-front}
+use Rattle.refusal.specs.Output.{onto}
+use Rattle.refusal.proofs.Outputs.{sets-front}
 use Rattle.word.proofs.Walks.{storing, storing-all, storing-next, storing-done}
 use Rattle.ppm.specs.Words.{littleEndian}
 use Rattle.ppm.proofs.Endian.{length-words, getD-words}

@@ -5,8 +5,8 @@ use mathlib.Core.Path.{_≡_, refl, sym, _∙_}
 use mathlib.Core.List.{map}
 use lib.ListN.{length, length-map, List·getD-map}
 use Rattle.word.specs.Fields.{low16}
-use Rattle.strip.specs.Output.{onto}
-use Rattle.strip.proofs.Outputs.{sets-front}
+use Rattle.refusal.specs.Output.{onto}
+use Rattle.refusal.proofs.Outputs.{sets-front}
 use Rattle.word.proofs.Walks.{storing, storing-all, storing-next, storing-done}
 use Rattle.strip.proofs.read.store_codes.Statement.{statement}
 use Rattle.strip.proofs.read.store_codes.Tie as tie

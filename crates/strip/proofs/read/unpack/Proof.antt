@@ -5,7 +5,7 @@ use mathlib.Core.Path.{sym, ap, _∙_}
 use native.Mathlib.Omega.{arith}
 use lib.ListN.{length}
 use denote.Ref.{now}
-use Rattle.strip.specs.Output.{onto}
+use Rattle.refusal.specs.Output.{onto}
 use Rattle.strip.proofs.Limits.{Fits, output-limits}
 use Rattle.strip.proofs.Bodies.{codes-in, body-lent}
 use Rattle.strip.proofs.read.unpack.Statement.{statement}

@@ -6,7 +6,7 @@ use native.Mathlib.Nat.{zero-add}
 use native.Mathlib.Omega.{arith}
 use lib.ListN.{length, getD, set}
 use lib.Seq.{sets, sets-eq, getD-set-other}
-use Rattle.strip.specs.Output.{onto}
+use Rattle.refusal.specs.Output.{onto}
 
 -- from the front on
 pub sets-front : (vs t : List ℕ) → length vs ≤ length t → sets t 0 vs ≡ onto vs t
