@@ -1,14 +1,15 @@
 -- Laws of the channel words of a strip. Assumes nothing.
-use Prim.Native.Nat.{ℕ, zero, suc, _+_, _-_, _*_, _/_, _%_, _^_, _<_, _≤_}
+use Prim.Native.Nat.{ℕ, zero, suc, _+_, _-_, _*_, _/_, _%_, _^_, _<_, _≤_, min}
 use mathlib.Core.Path.{_≡_, refl, sym, ap, subst, _∙_}
 use mathlib.Core.List.{List, [], _∷_, map}
-use native.Mathlib.Decide.{decLt}
-use native.Mathlib.Nat.{add-sub-cancel-left, le-refl}
+use native.Mathlib.Decide.{decLt, decLe}
+use native.Mathlib.Nat.{le-refl}
 use native.Mathlib.Numerals.{add-one}
 use native.Mathlib.Omega.{arith}
 use borrow.Author.Tests.{eq-eqb}
 use lib.Bits.{bitOr, or-add-and, and-le-l, and-le-r, or-shr, or-mod}
-use lib.ListN.{length, getD, take, drop}
+use lib.ListN.{length, getD, take, drop, length-take, length-drop, drop-of-length-le}
+use lib.Seq.{take-all, take-nil}
 use Rattle.number.specs.declared.channel.Channel.{Channel}
 use Rattle.number.specs.declared.channel.Channel.the-variants.{Black, Lit}
 use Rattle.number.specs.declared.channel.Decoded.the-variants.{Holds}
@@ -23,7 +24,8 @@ use Rattle.word.specs.Pixels.{pixelsOf, wordChannel, wordPixels}
 use Rattle.word.proofs.Decoding.{holds, is-word}
 use Rattle.word.proofs.Pixels.{word-channel}
 use Rattle.word.proofs.Walks.{checking, checking-all, checking-next, checking-done}
-use Rattle.strip.specs.Checks.{headerFields, bodyPart, decodedBody}
+use Rattle.word.proofs.Limits.{pixels-small}
+use Rattle.strip.specs.Checks.{wordAt, headerFields, channelCount, bodyPart, decodedBody}
 use Rattle.strip.specs.Holding.{NoFault, HoldsKind, AllHold, QuartersHold}
 use Rattle.strip.specs.Reading.{stripCodes, stripPixels}
 
@@ -90,7 +92,6 @@ module _ (ws : List ℕ) (i j : ℕ) (so-far : AllHold ws i j) where
   pub held-next : decodeWord j (getD ws j 0) ≡ Holds (wordChannel (getD ws j 0)) → AllHold ws i (j + 1)
   held-next e = held-append (j + 1) (record { held = λ k l m. let q : k ≡ j = omega arith in rw q e })
 
--- where all hold, none is refused
 -- to the same end
 pub held-until : {ws : List ℕ} {i j n : ℕ} → AllHold ws i j → j ≡ n → AllHold ws i n
 held-until {ws} {i} h e = subst (AllHold ws i) e h
@@ -123,14 +124,15 @@ quarters-whole ws q j k e =
     let three : AllHold ws 0 (3 * q + 0) = held-until (held-append ws 0 (2 * q + 0) two (2 * q + q) (h .third)) (omega arith) in
     held-until (held-append ws 0 (3 * q + 0) three (3 * q + q) (h .fourth)) (omega arith)
 
-pub held-accepted : (ws : List ℕ) → AllHold ws 0 (length ws) → firstRefusal (placed decodeWord 2 0 ws) ≡ Accepted
-held-accepted ws h = sym (checking-done decodeWord 2 ws (length ws) (go (length ws) (le-refl _)) (le-refl _))
+-- where all hold, none is refused, wherever the words begin
+pub held-accepted : (start : ℕ) (ws : List ℕ) → AllHold ws 0 (length ws) → firstRefusal (placed decodeWord start 0 ws) ≡ Accepted
+held-accepted start ws h = sym (checking-done decodeWord start ws (length ws) (go (length ws) (le-refl _)) (le-refl _))
   where
-    go : (n : ℕ) → n ≤ length ws → checking decodeWord 2 ws n ≡ firstRefusal (placed decodeWord 2 0 ws)
+    go : (n : ℕ) → n ≤ length ws → checking decodeWord start ws n ≡ firstRefusal (placed decodeWord start 0 ws)
     go zero l = checking-all _ _ _
     go (suc n) l =
         rw (← add-one n)
-        (checking-next decodeWord 2 ws n (go n (omega arith)) (omega arith) refl (h .held n (omega arith) (omega arith)))
+        (checking-next decodeWord start ws n (go n (omega arith)) (omega arith) refl (h .held n (omega arith) (omega arith)))
 
 -- ---- all words
 
@@ -156,6 +158,28 @@ channels-low start k (w ∷ ws) e =
 pub pixels-in : (s : List ℕ) → firstRefusal (decodedBody s) ≡ Accepted → stripPixels s ≡ wordPixels (bodyPart s)
 pixels-in s e = ap pixelsOf (channels-low (bodyStart (headerFields s)) 0 (bodyPart s) e)
 
--- the channel words as a call lends them, which reads the number n of pixels in the size word
-pub body-lent : (s : List ℕ) (n : ℕ) → n ≡ pixels (headerFields s) → take (2 + 3 * n - 2) (drop 2 s) ≡ bodyPart s
-body-lent s n e = rw (add-sub-cancel-left 2 (3 * n), e)
+-- a part of n elements from the index b on ends where the row ends
+pub part-within : (s : List ℕ) (b n : ℕ) → let l = length s in take (min (b + n) l - min b l) (drop (min b l) s) ≡ take n (drop b s)
+part-within s b n = by (decLe b (length s)) (decLe (b + n) (length s))
+  where
+    by : Dec (b ≤ length s) → Dec (b + n ≤ length s)
+        → let l = length s in take (min (b + n) l - min b l) (drop (min b l) s) ≡ take n (drop b s)
+    by (yes h) (yes k) =
+        let start : min b (length s) ≡ b = omega arith in
+        let count : min (b + n) (length s) - min b (length s) ≡ n = omega arith in
+        rw (count, start)
+    by (yes h) (no k) =
+        let start : min b (length s) ≡ b = omega arith in
+        let long = length-drop b s in
+        rw start (take-all (min (b + n) (length s) - b) (drop b s) (omega arith) ∙ sym (take-all n (drop b s) (omega arith)))
+    by (no h) _ =
+        let start : drop (min b (length s)) s ≡ [] = drop-of-length-le s {i = min b (length s)} (omega arith) in
+        let rest : drop b s ≡ [] = drop-of-length-le s {i = b} (omega arith) in
+        simp (start, rest, take-nil)
+
+-- the channel words of any row are fewer than 2^32
+pub body-small : (s : List ℕ) → length (bodyPart s) < 2 ^ 32
+body-small s =
+    let small = pixels-small (pixels (headerFields s)) (wordAt s 0) refl in
+    let long = length-take (channelCount s) (drop (bodyStart (headerFields s)) s) in
+    omega arith

@@ -4,19 +4,22 @@ use mathlib.Core.Path.{_≡_, refl}
 use mathlib.Core.List.{List}
 use mathlib.Core.Bool.{true}
 use native.Mathlib.Nat.{mul-le-mul-left, mul-suc}
+use native.Mathlib.Omega.{arith}
 use borrow.Author.Tests.{eqb-true, leb-true, ltb-true, le-leb}
-use lib.ListN.{length}
+use lib.ListN.{length, drop, length-drop}
+use lib.Seq.{length-take-le}
 use Rattle.refusal.specs.declared.Verdict.{Verdict}
 use Rattle.refusal.specs.declared.Verdict.the-variants.{Accepted, Refused}
 use Rattle.refusal.specs.Verdicts.{require, andThen}
 use Rattle.refusal.proofs.Laws.{require-passed, and-passed, and-met}
-use Rattle.word.specs.Words.{endIndex, pixels, sizeFits, keyFits, sizeWord, keyWord, endWord}
+use Rattle.word.specs.Words.{bodyStart, endIndex, pixels, sizeFits, keyFits, sizeWord, keyWord, endWord}
 use Rattle.word.specs.Placing.{firstRefusal}
 use Rattle.strip.specs.Checks.{
   wordAt,
   headerFields,
   channelCount,
   declaredLength,
+  bodyPart,
   decodedBody,
   checkHead,
   checkBody,
@@ -50,6 +53,13 @@ headed s e =
       key-fits = require-passed _ _ _ _ (key .1) .0;
       long = eqb-true _ _ (require-passed _ _ _ _ (b .1) .0);
     }
+
+-- no channel word is missing
+pub length-body : (s : List ℕ) → Head s → length (bodyPart s) ≡ channelCount s
+length-body s h =
+    let n = length-drop (bodyStart (headerFields s)) s in
+    let l = h .long in
+    length-take-le (channelCount s) (drop (bodyStart (headerFields s)) s) (omega arith)
 
 -- ---- its words
 

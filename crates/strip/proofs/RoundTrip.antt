@@ -5,8 +5,8 @@ use mathlib.Core.List.{List, [], _∷_, _++_}
 use mathlib.Core.Bool.{true}
 use native.Mathlib.Omega.{arith}
 use borrow.Author.Tests.{eq-eqb, le-leb}
-use lib.ListN.{length, getD, take, drop, length-map, length-append, length-drop}
-use lib.Seq.{take-at, getD-at, take-suc, take-all, length-take-le}
+use lib.ListN.{length, getD, take, length-map, length-append}
+use lib.Seq.{take-at, getD-at, take-suc, take-all}
 use Rattle.number.specs.declared.channel.Channel.{Channel}
 use Rattle.number.specs.declared.channel.Decoded.{Decoded}
 use Rattle.number.specs.declared.channel.Decoded.the-variants.{Holds}
@@ -16,7 +16,7 @@ use Rattle.refusal.specs.declared.Verdict.{Verdict}
 use Rattle.refusal.specs.declared.Verdict.the-variants.{Accepted}
 use Rattle.refusal.proofs.Laws.{and-passed, and-met, require-met}
 use Rattle.word.specs.declared.header.Header.{Header}
-use Rattle.word.specs.Words.{pixels, sizeFits, keyFits, sizeWord, keyWord, channelWord, bodyWords, endWord, endIndex, stripLength, stripOf}
+use Rattle.word.specs.Words.{pixels, sizeFits, keyFits, sizeWord, keyWord, channelWord, bodyWords, endWord, bodyStart, endIndex, stripLength, stripOf}
 use Rattle.word.specs.Placing.{Placed, placed, firstRefusal, channelsOf}
 use Rattle.strip.specs.Checks.{
   wordAt,
@@ -36,7 +36,7 @@ use Rattle.word.proofs.Walks.{length-placed, length-words}
 use Rattle.word.proofs.Pixels.{length-pixels}
 use Rattle.word.proofs.Limits.{size-limits, key-limits}
 use Rattle.strip.proofs.Bodies.{word-read}
-use Rattle.strip.proofs.Limits.{Whole}
+use Rattle.strip.proofs.Limits.{Whole, length-body}
 use Rattle.word.proofs.Decoding.{holds, is-word}
 
 -- ---- rows of elements that are read as channels, whatever f reads in one
@@ -132,8 +132,8 @@ module _ (h : Header) (cs : List Channel) (ok : IsPage h cs) where
       (and-met (require-met _ _ (eq-eqb _ _ key) (require-met _ _ (rw key-read (ok .key)) refl))
       (require-met _ _ (eq-eqb _ _ long) refl)))
 
-  read : ReadAs decodeWord 2 0 (bodyWords 0 cs) cs
-  read = words-read 2 0 cs (ok .valid)
+  read : ReadAs decodeWord (bodyStart h) 0 (bodyWords 0 cs) cs
+  read = words-read (bodyStart h) 0 cs (ok .valid)
 
   body-accepted : checkBody (stripOf h cs) ≡ Accepted
   unfolding checkBody
@@ -174,23 +174,22 @@ same-words (a ∷ b ∷ xs) q =
     rw (
       ← q .head .size,
       ← q .head .key,
-      words-written 2 0 (take n xs) (q .channels),
+      words-written (bodyStart (headerFields (a ∷ b ∷ xs))) 0 (take n xs) (q .channels),
       ← last,
       split-last n xs (omega (arith, q .head .long)),
     )
 
 pub page-read : (s : List ℕ) → Whole s → IsPage (headerFields s) (stripChannels s)
 page-read s q =
-    let n = q .head .long in
-    let fits : channelCount s ≤ length (drop 2 s) = rw length-drop (omega arith) in
+    let start = bodyStart (headerFields s) in
     let count : length (stripChannels s) ≡ channelCount s =
-    length-map (decodedBody s) (λ (p : Placed). channelIn (p .decoded)) ∙ length-placed _ 2 0 (bodyPart s)
-    ∙ length-take-le (channelCount s) (drop 2 s) fits in
+    length-map (decodedBody s) (λ (p : Placed). channelIn (p .decoded)) ∙ length-placed _ start 0 (bodyPart s)
+    ∙ length-body s (q .head) in
     record {
       size = q .head .size-fits;
       key = q .head .key-fits;
       count = count;
-      valid = channels-valid decodeWord word-valid 2 0 (bodyPart s) (q .channels);
+      valid = channels-valid decodeWord word-valid start 0 (bodyPart s) (q .channels);
     }
 
 pub count-pixels : (s : List ℕ) → Whole s → length (stripPixels s) ≡ pixels (headerFields s)

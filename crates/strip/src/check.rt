@@ -1,18 +1,26 @@
 // The checks of a strip, in their order.
 ghost use mathlib.Core.Path.{_≡_};
 ghost use mathlib.Core.Bool.{true};
-ghost use Prim.Native.Nat.{_+_, _*_, _%_, _≤_, _<_};
+ghost use Prim.Native.Nat.{_+_, _*_, _%_, _^_, _≤_, _<_};
+ghost use lib.Dec.{leb, ltb};
 ghost use lib.ListN.{length};
+ghost use Rattle.refusal.specs.declared.Refusal.{Refusal};
 ghost use Rattle.refusal.specs.declared.Verdict.{Verdict};
+ghost use Rattle.refusal.specs.Verdicts.{require};
 ghost use Rattle.word.specs.Placing.{placed, firstRefusal};
 ghost use Rattle.word.specs.Fields.{decodeWord};
 ghost use Rattle.word.specs.Kinds.{IsKinds};
-ghost use Rattle.strip.specs.Checks.{checkHead, checkBody, checkStrip, checkOutput, checkRow};
+ghost use Rattle.strip.specs.Checks.{headerFields, channelCount, checkHead, checkBody, checkWith, checkStrip, checkOutput, checkRow};
 ghost use Rattle.strip.specs.Holding.{QuartersHold, NoFault, HoldsKind, AllHold, BlockWithin};
+use crate::read::body;
+use crate::read::body_start;
+use crate::read::declared_length;
+use crate::read::declared_pixels;
+use crate::read::end_index;
+use crate::read::word_at;
 use number::channel::Decoded;
 use refusal::Refusal;
 use refusal::Verdict;
-use word::body::BODY_START;
 use word::body::channel_word;
 use word::body::decode_word;
 use word::body::verdict_at;
@@ -20,7 +28,6 @@ use word::header::check_key_word;
 use word::header::check_size_word;
 use word::header::end_word;
 use word::header::height_in;
-use word::header::pixel_count;
 use word::kinds::BLOCK;
 use word::kinds::block_kinds;
 
@@ -39,7 +46,7 @@ fn check_head(strip: &[u32]) -> Verdict
     let Verdict::Accepted = key else {
         return key;
     };
-    if strip.len() == BODY_START + 3 * pixel_count(strip[0]) + 1 {
+    if strip.len() == declared_length(strip) {
         Verdict::Accepted
     } else {
         Verdict::Refused(Refusal::WrongLength, 0)
@@ -128,7 +135,7 @@ fn quarters_hold(kinds: &[u32], words: &[u32], quarter: usize, start: usize) -> 
 // True only where every word holds a channel of its kind: whole blocks, then the rest. Four blocks are read at a time, far apart, since
 // memory then answers sooner than for one row of words.
 fn all_hold(words: &[u32]) -> bool
-    ensures { λ r. ⌜ (r ≡ true → firstRefusal (placed decodeWord 2 0 (now (words .entry))) ≡ Verdict.Accepted) ⌝ }
+    ensures { λ r. ⌜ (r ≡ true → AllHold (now (words .entry)) 0 (length (now (words .entry)))) ⌝ }
 {
     let kinds = block_kinds();
     let quarter = words.len() / 192 * BLOCK;
@@ -142,85 +149,102 @@ fn all_hold(words: &[u32]) -> bool
     rest_holds(words, 4 * quarter)
 }
 
-// The first word that is no channel of its kind ends the walk. The first word is that of channel 0, at BODY_START.
-fn first_fault(words: &[u32]) -> Verdict
-    ensures { λ r. ⌜ r ≡ firstRefusal (placed decodeWord 2 0 (now (words .entry))) ⌝ }
+// The first word that is no channel of its kind ends the walk. The first word is that of channel 0, at the index `start`.
+fn first_fault(start: usize, words: &[u32]) -> Verdict
+    requires { ⌜ start + length (now words) < 2 ^ 64 ⌝ }
+    ensures { λ r. ⌜ r ≡ firstRefusal (placed decodeWord start 0 (now (words .entry))) ⌝ }
 {
     let mut k: usize = 0;
     while k < words.len() {
         let decoded = decode_word(k, words[k]);
         let Decoded::Holds(_) = decoded else {
-            return verdict_at(BODY_START + k, decoded);
+            return verdict_at(start + k, decoded);
         };
         k += 1;
     }
     Verdict::Accepted
 }
 
-// The channel words.
-fn check_channels(words: &[u32]) -> Verdict
-    ensures { λ r. ⌜ r ≡ firstRefusal (placed decodeWord 2 0 (now (words .entry))) ⌝ }
+// The channel words, the first of which has the index `start`.
+fn check_channels(start: usize, words: &[u32]) -> Verdict
+    requires { ⌜ start + length (now words) < 2 ^ 64 ⌝ }
+    ensures { λ r. ⌜ r ≡ firstRefusal (placed decodeWord start 0 (now (words .entry))) ⌝ }
 {
     if all_hold(words) {
         return Verdict::Accepted;
     }
-    first_fault(words)
+    first_fault(start, words)
 }
 
-// The channel words and the end word of a strip whose header and length are accepted.
+// The channel words and the end word.
 fn check_body(strip: &[u32]) -> Verdict
-    requires { ⌜ checkHead (now strip) ≡ Verdict.Accepted ⌝ }
     ensures { λ r. ⌜ r ≡ checkBody (now (strip .entry)) ⌝ }
 {
-    let pixels = pixel_count(strip[0]);
-    let end = BODY_START + 3 * pixels;
-    let channels = check_channels(&strip[BODY_START..end]);
+    let channels = check_channels(body_start(strip), body(strip));
     let Verdict::Accepted = channels else {
         return channels;
     };
-    if strip[end] as u64 == end_word(pixels as u32) {
+    let end = end_index(strip);
+    if word_at(strip, end) as u64 == end_word(declared_pixels(strip) as u32) {
         Verdict::Accepted
     } else {
         Verdict::Refused(Refusal::UnexpectedWord, end)
     }
 }
 
-// A whole strip.
-pub fn check(strip: &[u32]) -> Verdict
-    ensures { λ r. ⌜ r ≡ checkStrip (now (strip .entry)) ⌝ }
+// The checks of a strip, with what a call adds between length and words.
+pub fn check_with(strip: &[u32], added: Verdict) -> Verdict
+    ensures { λ r. ⌜ r ≡ checkWith added (now (strip .entry)) ⌝ }
 {
     let head = check_head(strip);
     let Verdict::Accepted = head else {
         return head;
     };
+    let Verdict::Accepted = added else {
+        return added;
+    };
     check_body(strip)
+}
+
+// A whole strip.
+pub fn check(strip: &[u32]) -> Verdict
+    ensures { λ r. ⌜ r ≡ checkStrip (now (strip .entry)) ⌝ }
+{
+    check_with(strip, Verdict::Accepted)
+}
+
+// Whether an output of so many elements has one for each channel.
+fn check_room(strip: &[u32], room: usize) -> Verdict
+    ensures { λ r. ⌜ r ≡ require (leb (channelCount (now (strip .entry))) room) Refusal.SmallOutput 0 Verdict.Accepted ⌝ }
+{
+    if room < 3 * declared_pixels(strip) {
+        Verdict::Refused(Refusal::SmallOutput, 0)
+    } else {
+        Verdict::Accepted
+    }
 }
 
 // A strip whose channels go into an output of so many elements.
 pub fn check_output(strip: &[u32], room: usize) -> Verdict
     ensures { λ r. ⌜ r ≡ checkOutput (now (strip .entry)) room ⌝ }
 {
-    let head = check_head(strip);
-    let Verdict::Accepted = head else {
-        return head;
-    };
-    if room < 3 * pixel_count(strip[0]) {
-        return Verdict::Refused(Refusal::SmallOutput, 0);
+    check_with(strip, check_room(strip, room))
+}
+
+// Whether a strip declares row y.
+fn check_number(strip: &[u32], y: usize) -> Verdict
+    ensures { λ r. ⌜ r ≡ require (ltb y (headerFields (now (strip .entry)) .height)) Refusal.NoSuchRow 0 Verdict.Accepted ⌝ }
+{
+    if y < height_in(word_at(strip, 0)) as usize {
+        Verdict::Accepted
+    } else {
+        Verdict::Refused(Refusal::NoSuchRow, 0)
     }
-    check_body(strip)
 }
 
 // A strip of which row y is asked for.
 pub fn check_row(strip: &[u32], y: usize) -> Verdict
     ensures { λ r. ⌜ r ≡ checkRow (now (strip .entry)) y ⌝ }
 {
-    let head = check_head(strip);
-    let Verdict::Accepted = head else {
-        return head;
-    };
-    let height = height_in(strip[0]) as usize;
-    if height <= y {
-        return Verdict::Refused(Refusal::NoSuchRow, 0);
-    }
-    check_body(strip)
+    check_with(strip, check_number(strip, y))
 }

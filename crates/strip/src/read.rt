@@ -1,10 +1,11 @@
-// What an accepted strip holds: its header, and its channels as 16-bit numbers.
+// Where things stand in any row of words, and what an accepted strip holds: its header, and its channels as 16-bit numbers.
 ghost use mathlib.Core.Path.{_≡_};
 ghost use mathlib.Core.List.{map};
-ghost use Prim.Native.Nat.{_≤_};
+ghost use Prim.Native.Nat.{_≤_, min};
 ghost use lib.ListN.{length};
 ghost use Rattle.word.specs.Fields.{low16};
-ghost use Rattle.strip.specs.Checks.{checkOutput};
+ghost use Rattle.word.specs.Words.{pixels, bodyStart, endIndex};
+ghost use Rattle.strip.specs.Checks.{wordAt, headerFields, declaredLength, bodyPart, checkOutput};
 ghost use Rattle.strip.specs.Reading.{readHeader, stripCodes};
 ghost use Rattle.refusal.specs.Output.{onto, after};
 use crate::check::check;
@@ -17,6 +18,57 @@ use word::header::height_in;
 use word::header::low_half;
 use word::header::pixel_count;
 use word::header::width_in;
+
+// The word at an index of a row; 0 where there is none.
+pub fn word_at(row: &[u32], i: usize) -> u32
+    ensures { λ r. ⌜ r ≡ wordAt (now (row .entry)) i ⌝ }
+{
+    if i < row.len() { row[i] } else { 0 }
+}
+
+// The pixels that the strip at the front of a row declares.
+pub fn declared_pixels(row: &[u32]) -> usize
+    ensures { λ r. ⌜ r ≡ pixels (headerFields (now (row .entry))) ⌝ }
+{
+    pixel_count(word_at(row, 0))
+}
+
+// The index of its first channel word.
+pub fn body_start(row: &[u32]) -> usize
+    ensures { λ r. ⌜ r ≡ bodyStart (headerFields (now (row .entry))) ⌝ }
+{
+    BODY_START
+}
+
+// The index of its end word.
+pub fn end_index(row: &[u32]) -> usize
+    ensures { λ r. ⌜ r ≡ endIndex (headerFields (now (row .entry))) ⌝ }
+{
+    body_start(row) + 3 * declared_pixels(row)
+}
+
+// How many words it declares.
+pub fn declared_length(row: &[u32]) -> usize
+    ensures { λ r. ⌜ r ≡ declaredLength (now (row .entry)) ⌝ }
+{
+    end_index(row) + 1
+}
+
+// An index, but not beyond the end of a row of so many words.
+fn within(i: usize, length: usize) -> usize
+    ensures { λ r. ⌜ r ≡ min i length ⌝ }
+{
+    if i < length { i } else { length }
+}
+
+// Its channel words; a row that is cut short has those that are there.
+pub fn body(row: &[u32]) -> &[u32]
+    ensures { λ r. ⌜ now r ≡ bodyPart (now (row .entry)) ⌝ }
+{
+    let start = within(body_start(row), row.len());
+    let end = within(end_index(row), row.len());
+    &row[start..end]
+}
 
 // The header of an accepted strip, or its refusal with the index where it was found.
 pub enum HeaderOrRefusal {
@@ -60,7 +112,6 @@ pub fn unpack(strip: &[u32], output: &mut [u16]) -> Verdict
     let Verdict::Accepted = verdict else {
         return verdict;
     };
-    let end = BODY_START + 3 * pixel_count(strip[0]);
-    store_codes(&strip[BODY_START..end], output);
+    store_codes(body(strip), output);
     Verdict::Accepted
 }

@@ -1,11 +1,11 @@
 -- `strip::check::all_hold` meets its contract: the words of the blocks so far hold, in each quarter. Assumes nothing.
 use borrow.Author.Needs.{needs}
 use borrow.Author.Tests.{not-false}
-use Prim.Native.Nat.{_-_, _%_, _≤_}
+use Prim.Native.Nat.{ℕ, _-_, _%_, _≤_}
 use mathlib.Core.Path.{_≡_}
 use native.Mathlib.Omega.{arith}
 use Rattle.strip.specs.Holding.{QuartersHold}
-use Rattle.strip.proofs.Bodies.{held-append, no-quarters, quarters-append, quarters-whole, held-accepted}
+use Rattle.strip.proofs.Bodies.{held-append, no-quarters, quarters-append, quarters-whole}
 use Rattle.strip.proofs.check.all_hold.Statement.{statement}
 use Rattle.strip.proofs.check.all_hold.Tie as tie
 
@@ -29,12 +29,12 @@ loop-again c =
 returns-2 : tie.Need-returns-2 Inv-loop μ-loop
 returns-2 c e =
     let l = c .before .before in
-    held-accepted _ (held-append _ _ _ (quarters-whole _ _ _ (l .loop .inv .2) (omega arith)) _ (c .rest-holds .ensures e))
+    held-append _ _ _ (quarters-whole _ _ _ (l .loop .inv .2) (omega arith)) _ (c .rest-holds .ensures e)
 
 pub all-hold-spec : {M : Type 1} → statement M
 all-hold-spec =
     tie.close
     (tie.spec
     Inv-loop μ-loop (λ c κs. search needs) (λ c. search needs) (λ c. (omega arith, omega arith, no-quarters _ _)) (λ c. search needs)
-    quarters-hold-requires (λ c e. cc) (λ c. search needs) (λ c. search needs) loop-again (λ c. search needs) (λ c κs. search needs)
+    quarters-hold-requires (λ c e. let z : _≡_ {A = ℕ} 0 1 = cc in absurd (omega arith)) (λ c. search needs) (λ c. search needs) loop-again (λ c. search needs) (λ c κs. search needs)
     returns-2)

@@ -9,7 +9,6 @@ use Rattle.refusal.specs.declared.Verdict.the-variants.{Accepted}
 use Rattle.refusal.specs.Verdicts.{require, andThen}
 use Rattle.strip.specs.Checks.{wordAt, declaredLength, checkHead}
 use Rattle.word.specs.Fields.{checkSizeWord, checkKeyWord}
-use Rattle.word.proofs.Limits.{pixels-small}
 use Rattle.strip.proofs.check.check_head.Statement.{statement}
 use Rattle.strip.proofs.check.check_head.Tie as tie
 
@@ -33,7 +32,7 @@ returns-3 c =
 returns-4 : tie.Need-returns-4
 unfolding checkHead require andThen
 returns-4 c =
-    let b = c .before .before .before .before .before .before .before in
+    let b = c .before .before .before .before .before .before in
     let s = now (b .before .before .before .before .before .before .args .strip) in
     let size : checkSizeWord (wordAt s 0) ≡ Accepted = cc in
     let key : checkKeyWord (wordAt s 1) ≡ Accepted = cc in
@@ -42,18 +41,16 @@ returns-4 c =
 returns-5 : tie.Need-returns-5
 unfolding checkHead require andThen
 returns-5 c =
-    let b = c .before .before .before .before .before .before .before in
+    let b = c .before .before .before .before .before .before in
     let s = now (b .before .before .before .before .before .before .args .strip) in
     let size : checkSizeWord (wordAt s 0) ≡ Accepted = cc in
     let key : checkKeyWord (wordAt s 1) ≡ Accepted = cc in
-    simp (le-leb 2 (length s) (omega arith), size, key, sym (c .before .pixel-count .ensures), ne-eqb _ _ (c .if2 .left))
+    simp (le-leb 2 (length s) (omega arith), size, key, sym (c .before .declared-length .ensures), ne-eqb _ _ (c .if2 .left))
 
 pub check-head-spec : {M : Type 1} → statement M
 check-head-spec =
     tie.close
     (tie.spec
     returns (λ c. search needs) (λ c κs. search needs) (λ c. search needs) (λ c. search needs) returns-2
-    (λ c. search needs) (λ c κs. search needs) (λ c. search needs) (λ c. search needs) returns-3 (λ c. search needs)
-    (λ c κs. search needs) (λ c. omega (arith, pixels-small _ _ (c .pixel-count .ensures)))
-    (λ c. omega (arith, pixels-small _ _ (c .pixel-count .ensures)))
-    (λ c. omega (arith, pixels-small _ _ (c .pixel-count .ensures))) returns-4 returns-5)
+    (λ c. search needs) (λ c κs. search needs) (λ c. search needs) (λ c. search needs) returns-3
+    (λ c κs. search needs) returns-4 returns-5)

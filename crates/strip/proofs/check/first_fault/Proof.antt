@@ -10,10 +10,10 @@ use Rattle.strip.proofs.check.first_fault.Statement.{statement}
 use Rattle.strip.proofs.check.first_fault.Tie as tie
 
 abbrev Inv-loop : tie.InvT-loop
-Inv-loop words k₀ k = checking decodeWord 2 words k ≡ firstRefusal (placed decodeWord 2 0 words)
+Inv-loop start words k₀ k = checking decodeWord start words k ≡ firstRefusal (placed decodeWord start 0 words)
 
 abbrev μ-loop : tie.MeasureT-loop
-μ-loop words k₀ k = length words - k
+μ-loop start words k₀ k = length words - k
 
 returns : tie.Need-returns Inv-loop μ-loop
 returns c =

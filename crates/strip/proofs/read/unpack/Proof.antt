@@ -6,8 +6,8 @@ use native.Mathlib.Omega.{arith}
 use lib.ListN.{length}
 use denote.Ref.{now}
 use Rattle.refusal.specs.Output.{onto}
-use Rattle.strip.proofs.Limits.{Fits, output-limits}
-use Rattle.strip.proofs.Bodies.{codes-in, body-lent}
+use Rattle.strip.proofs.Limits.{Fits, output-limits, length-body}
+use Rattle.strip.proofs.Bodies.{codes-in}
 use Rattle.strip.proofs.read.unpack.Statement.{statement}
 use Rattle.strip.proofs.read.unpack.Tie as tie
 
@@ -18,24 +18,22 @@ limits c = output-limits _ _ (cc)
 
 store-codes-requires : tie.Need-store-codes-requires
 store-codes-requires c κs =
-    let p = c .before .before in
-    omega (arith, c .before .store-codes-arg .given, p .pixel-count .ensures, limits (p .before .before) .fits)
+    let b = c .before in
+    let q = limits (b .before) in
+    rw (b .body .ensures) (omega (arith, length-body _ (q .strip .head), q .fits))
 
 returns-2 : tie.Need-returns-2
 returns-2 c =
-    let p = c .before .before .before .before .before in
-    let a = p .before .before .before .before .before .before .before .args in
-    let stored = rw (body-lent (now (a .strip)) _ (p .pixel-count .ensures)) at (c .before .before .store-codes .ensures) in
-    let codes = codes-in (now (a .strip)) (limits (p .before .before) .strip .channels) in
+    let o = c .before .before in
+    let b = o .before .before in
+    let a = b .before .before .before .before .before .before .args in
+    let stored = rw (b .body .ensures) at (o .store-codes .ensures) in
+    let codes = codes-in (now (a .strip)) (limits (b .before) .strip .channels) in
     (cc, stored ∙ ap (λ vs. onto vs (now (a .output))) (sym codes))
 
 pub unpack-spec : {M : Type 1} → statement M
 unpack-spec =
     tie.close
     (tie.spec
-    (λ c κs. search needs) (λ c. search needs) (λ c. search needs) (λ c. search needs)
-    (λ c. omega (arith, limits (c .before) .strip .head .long)) (λ c κs. search needs)
-    (λ c. omega (arith, c .pixel-count .ensures, limits (c .before .before) .fits))
-    (λ c. omega (arith, c .pixel-count .ensures, limits (c .before .before) .fits)) (λ c. search needs) (λ c. search needs)
-    (λ c. omega (arith, c .pixel-count .ensures, limits (c .before .before) .strip .head .long))
+    (λ c κs. search needs) (λ c. search needs) (λ c. search needs) (λ c. search needs) (λ c κs. search needs)
     store-codes-requires (λ c. search needs) returns-2)
