@@ -30,9 +30,8 @@ use tone::factor::reciprocal_table;
 use tone::factor::wide_level;
 use tone::level::display_by;
 use tone::level::scaled_table;
-use word::body::BODY_START;
+use strip::read::body;
 use word::header::low_half;
-use word::header::pixel_count;
 
 // The most pixels of a block.
 const BLOCK_PIXELS: usize = 64;
@@ -226,9 +225,8 @@ pub fn body_levels(strip: &[u32], average: Stored, output: &mut [u8])
     requires { ⌜ (checkStrip (now strip) ≡ Verdict.Accepted) × IsStoredAverage average × (channelCount (now strip) ≤ length (now output)) × HoldsIndices 0 (bodyPart (now strip)) (now output) ⌝ }
     ensures { λ _. ⌜ now (output .exit) ≡ onto (levelsUnder (headerFields (now (strip .entry)) .key) average (stripPixels (now (strip .entry)))) (now (output .entry)) ⌝ }
 {
-    let end = BODY_START + 3 * pixel_count(strip[0]);
     let key = low_half(strip[1]) as u64;
-    fill_levels(&strip[BODY_START..end], key, average, output);
+    fill_levels(body(strip), key, average, output);
 }
 
 // Level 0 in the first `count` bytes of the output.

@@ -29,9 +29,8 @@ use average::tally::with_luminance;
 use luminance::index::luminance_index;
 use luminance::index::stored_at;
 use luminance::index::weight_table;
-use word::body::BODY_START;
+use strip::read::body;
 use word::header::low_half;
-use word::header::pixel_count;
 
 // The index of the luminance of a pixel's words: the one that is at hand, where it is worked out.
 fn word_index(
@@ -158,9 +157,8 @@ pub fn body_tally(strip: &[u32]) -> Tally
     requires { ⌜ checkStrip (now strip) ≡ Verdict.Accepted ⌝ }
     ensures { λ r. ⌜ r ≡ tallyOf (stripLuminances (now (strip .entry))) ⌝ }
 {
-    let end = BODY_START + 3 * pixel_count(strip[0]);
     let mut none = [0u8; 1];
-    index_pixels(&strip[BODY_START..end], &mut none)
+    index_pixels(body(strip), &mut none)
 }
 
 // The tally of an accepted strip, with the indices of its luminances in the front of the output.
@@ -169,6 +167,5 @@ pub fn body_indices(strip: &[u32], output: &mut [u8]) -> Tally
     ensures tally { λ r. ⌜ r ≡ tallyOf (stripLuminances (now (strip .entry))) ⌝ }
     ensures content { λ _. ⌜ now (output .exit) ≡ onto (indexBytes (stripPixels (now (strip .entry)))) (now (output .entry)) ⌝ }
 {
-    let end = BODY_START + 3 * pixel_count(strip[0]);
-    index_pixels(&strip[BODY_START..end], output)
+    index_pixels(body(strip), output)
 }

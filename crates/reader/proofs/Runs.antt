@@ -12,8 +12,10 @@ use denote.Ref.{RefT, now}
 use Rattle.number.specs.declared.channel.Pixel.{Pixel as PixelType}
 use Rattle.refusal.specs.declared.Verdict.{Verdict}
 use Rattle.refusal.specs.declared.Verdict.the-variants.{Accepted, Refused}
-use Rattle.word.specs.Words.{pixels}
+use Rattle.word.specs.declared.header.Header.{Header}
+use Rattle.word.specs.Words.{pixels, bodyStart}
 use Rattle.word.specs.Pixels.{wordPixels}
+use Rattle.word.proofs.Limits.{behind-head}
 use Rattle.word.proofs.Pixels.{length-word-pixels, pixelAt, drop-pixel}
 use Rattle.strip.specs.Checks.{headerFields, bodyPart, checkStrip}
 use Rattle.strip.specs.Reading.{stripPixels}
@@ -27,8 +29,8 @@ use Rattle.reader.specs.Steps.{startUnder, pixelBegins, pixelFrom, stepU
 use Rattle.reader.specs.Claims.{answersOf, answersUnder, EveryRun}
 use Rattle.reader.proofs.Cases.{step-checked, step-pixel, after-pixel, step-over, after-stays}
 
-begins-at : (k n : ℕ) → pixelBegins n (2 + 3 * k) ≡ ltb (2 + 3 * k + 3) n
-begins-at k n = rw (lt-ltb 0 (2 + 3 * k) (omega arith))
+begins-at : (h : Header) (k n : ℕ) → let p = bodyStart h + 3 * k in pixelBegins n p ≡ ltb (p + 3) n
+begins-at h k n = rw (lt-ltb 0 (bodyStart h + 3 * k) (omega (arith, behind-head h)))
 
 -- the first pixel is the first answer
 first-answer : (n : ℕ) (p : PixelType) (ps : List PixelType) → answersUnder Accepted (suc n) (p ∷ ps) ≡ Pixel p ∷ answersUnder Accepted n ps
@@ -40,6 +42,9 @@ module _ (strip : RefT (List ℕ)) where
 
   abbrev count : ℕ
   count = pixels (headerFields s)
+
+  abbrev start : ℕ
+  start = bodyStart (headerFields s)
 
   abbrev reader : (position : ℕ) → PageReader
   reader p = record { strip = strip; position = p }
@@ -59,25 +64,25 @@ module _ (strip : RefT (List ℕ)) where
     thirds : length ws / 3 ≡ count
     thirds = sym (length-word-pixels ws) ∙ ap length (sym (pixels-in s (ok .channels))) ∙ count-pixels s ok
 
-    word-in : (i : ℕ) → i < 3 * count → getD s (2 + i) 0 ≡ getD ws i 0
-    word-in i h = sym (getD-take (3 * count) (drop 2 s) i 0 h ∙ getD-drop 2 s i 0)
+    word-in : (i : ℕ) → i < 3 * count → getD s (start + i) 0 ≡ getD ws i 0
+    word-in i h = sym (getD-take (3 * count) (drop start s) i 0 h ∙ getD-drop start s i 0)
 
-    pixel-in : (k : ℕ) → k < count → pixelFrom s (2 + 3 * k) ≡ pixelAt ws k
+    pixel-in : (k : ℕ) → k < count → pixelFrom s (start + 3 * k) ≡ pixelAt ws k
     pixel-in k h =
-        let e₁ : 2 + 3 * k + 1 ≡ 2 + (3 * k + 1) = omega arith in
-        let e₂ : 2 + 3 * k + 2 ≡ 2 + (3 * k + 2) = omega arith in
+        let e₁ : start + 3 * k + 1 ≡ start + (3 * k + 1) = omega arith in
+        let e₂ : start + 3 * k + 2 ≡ start + (3 * k + 2) = omega arith in
         rw (e₁, e₂, word-in (3 * k) (omega arith), word-in (3 * k + 1) (omega arith), word-in (3 * k + 2) (omega arith))
 
     -- before pixel k, the first of m that are left
-    answers-from : (m k n : ℕ) → k + m ≡ count → answersOf n (reader (2 + 3 * k)) ≡ answersUnder Accepted n (drop k (wordPixels ws))
+    answers-from : (m k n : ℕ) → k + m ≡ count → answersOf n (reader (start + 3 * k)) ≡ answersUnder Accepted n (drop k (wordPixels ws))
     answers-from zero k n e =
-        let over = begins-at k (length s) ∙ le-ltb (2 + 3 * k + 3) (length s) (omega (arith, ok .head .long)) in
+        let over = begins-at (headerFields s) k (length s) ∙ le-ltb (start + 3 * k + 3) (length s) (omega (arith, ok .head .long)) in
         let none = drop-of-length-le (wordPixels ws) {i = k} (rw (length-word-pixels ws, thirds) (omega arith)) in
-        same-answers _ (step-over s _ over (λ z. omega arith)) (after-stays s _ over) n ∙ rw (none, take-nil n, sub-zero n)
+        same-answers _ (step-over s _ over (λ z. omega (arith, behind-head (headerFields s)))) (after-stays s _ over) n ∙ rw (none, take-nil n, sub-zero n)
     answers-from (suc m) k zero e = rw zero-sub
     answers-from (suc m) k (suc n) e =
-        let begins = begins-at k (length s) ∙ lt-ltb (2 + 3 * k + 3) (length s) (omega (arith, ok .head .long)) in
-        let further : 2 + 3 * k + 3 ≡ 2 + 3 * (k + 1) = omega arith in
+        let begins = begins-at (headerFields s) k (length s) ∙ lt-ltb (start + 3 * k + 3) (length s) (omega (arith, ok .head .long)) in
+        let further : start + 3 * k + 3 ≡ start + 3 * (k + 1) = omega arith in
         let there : k < length ws / 3 = rw thirds (omega arith) in
         rw (step-pixel s _ begins, pixel-in k (omega arith), drop-pixel ws k there)
         (rw (after-pixel s _ begins, further, answers-from m (k + 1) n (omega arith))

@@ -4,7 +4,7 @@ ghost use Rattle.reader.specs.Steps.{startOf, pixelBegins, stepAt, posit
 use crate::Step;
 use refusal::Verdict;
 use strip::check::check;
-use word::body::BODY_START;
+use strip::read::body_start;
 use word::body::pixel_in;
 
 // Where the reader of a strip starts.
@@ -12,7 +12,7 @@ pub fn start_of(strip: &[u32]) -> usize
     ensures { λ r. ⌜ r ≡ startOf (now (strip .entry)) ⌝ }
 {
     match check(strip) {
-        Verdict::Accepted => BODY_START,
+        Verdict::Accepted => body_start(strip),
         Verdict::Refused(_, _) => 0,
     }
 }

@@ -4,7 +4,7 @@ ghost use Rattle.row.specs.Rows.{findRow, rowOf, wordsOf, pointerTo};
 use refusal::Refusal;
 use refusal::Verdict;
 use strip::check::check_row;
-use word::body::BODY_START;
+use strip::read::body_start;
 use word::header::width_in;
 
 // A part of a strip: `count` words from the index `start` on.
@@ -28,7 +28,7 @@ pub fn find_row(strip: &[u32], y: usize) -> RowOrRefusal
         Verdict::Accepted => {
             let width = width_in(strip[0]) as usize;
             RowOrRefusal::Holds(Part {
-                start: BODY_START + 3 * (width * y),
+                start: body_start(strip) + 3 * (width * y),
                 count: 3 * width,
             })
         },

@@ -5,7 +5,8 @@ use mathlib.Core.Bool.{Bool, true, false, _&&_}
 use native.Mathlib.Nat.{mul-le-mul}
 use native.Mathlib.Omega.{arith}
 use borrow.Author.Tests.{leb-true}
-use Rattle.word.specs.Words.{sizeFits, keyFits}
+use Rattle.word.specs.declared.header.Header.{Header}
+use Rattle.word.specs.Words.{sizeFits, keyFits, bodyStart}
 use Rattle.word.specs.Fields.{widthIn, heightIn}
 
 both-true : (a b : Bool) → (a && b) ≡ true → (a ≡ true) × (b ≡ true)
@@ -50,3 +51,7 @@ pixels-small n w e =
     let h : widthIn w ≤ 16383 = omega arith in
     let k : heightIn w ≤ 16383 = omega arith in
     omega (arith, mul-le-mul h k)
+
+-- size and key word stand before the channels
+pub behind-head : (h : Header) → 2 ≤ bodyStart h
+behind-head h = omega arith

@@ -8,8 +8,10 @@ use Rattle.reader.proofs.steps.start_of.Tie as tie
 
 returns : tie.Need-returns
 returns c =
-    let d = c .before .before in
-    ap (λ v. startUnder v (now (d .before .before .args .strip))) (sym (c .enum-told .given .1) ∙ d .check .ensures)
+    let t = c .before in
+    let d = t .before .before in
+    c .body-start .ensures
+    ∙ ap (λ v. startUnder v (now (d .before .before .args .strip))) (sym (t .enum-told .given .1) ∙ d .check .ensures)
 
 returns-2 : tie.Need-returns-2
 returns-2 c =
@@ -17,4 +19,4 @@ returns-2 c =
     ap (λ v. startUnder v (now (d .before .before .args .strip))) (sym (c .enum-told2 .given .1) ∙ d .check .ensures)
 
 pub start-of-spec : {M : Type 1} → statement M
-start-of-spec = tie.close (tie.spec (λ c κs. search needs) (λ c. search needs) (λ c. search needs) returns returns-2)
+start-of-spec = tie.close (tie.spec (λ c κs. search needs) (λ c. search needs) (λ c κs. search needs) (λ c. search needs) returns returns-2)
