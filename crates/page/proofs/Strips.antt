@@ -1,5 +1,5 @@
 -- What the tally and the levels of an accepted strip rest on. Assumes nothing.
-use Prim.Native.Nat.{ℕ, _*_, _≤_}
+use Prim.Native.Nat.{ℕ, _*_, _^_, _≤_}
 use mathlib.Core.Path.{_≡_, sym, _∙_}
 use mathlib.Core.List.{List, map}
 use native.Mathlib.Omega.{arith}
@@ -10,12 +10,12 @@ use mir.Val.{toZ, ofZ}
 use mir.Facts.{toZ-ofZ}
 use Rattle.number.specs.declared.ratio.Stored.{Stored}
 use Rattle.number.proofs.Laws.{Every}
-use Rattle.word.specs.Words.{pixels}
+use Rattle.word.specs.Words.{pixels, bodyStart}
 use Rattle.word.proofs.Limits.{size-limits, key-limits}
 use Rattle.strip.specs.Checks.{headerFields, bodyPart}
 use Rattle.refusal.specs.Output.{onto}
 use Rattle.strip.specs.Reading.{stripPixels}
-use Rattle.strip.proofs.Limits.{Whole}
+use Rattle.strip.proofs.Limits.{Whole, length-body}
 use Rattle.strip.proofs.Bodies.{pixels-in}
 use Rattle.strip.proofs.RoundTrip.{count-pixels}
 use Rattle.average.specs.declared.average.Average.{Average}
@@ -27,15 +27,21 @@ use Rattle.luminance.specs.Pixels.{IsPixel}
 use Rattle.average.specs.Tallies.{sumOf, tallyOf}
 use Rattle.average.proofs.Laws.{tally-is-sum, sum-fits, sum-has-average}
 use Rattle.page.specs.Tallying.{stripLuminances, stripAverage}
-use Rattle.page.specs.Indices.{indexed, indexBytes, HoldsIndices}
+use Rattle.page.specs.Indices.{AreCodes, indexed, indexBytes, HoldsIndices}
 use Rattle.page.specs.Mapping.{levelsOf, levelsUnder, pageLevels, stripLevels}
-use Rattle.page.proofs.Indices.{indices-held, onto-again}
+use Rattle.page.proofs.Indices.{are-codes, indices-held, onto-again}
 use Rattle.page.proofs.Walks.{length-bytes}
 use Rattle.page.proofs.Luminances.{pixels-valid, every-luminance, luminances-few}
 
 module _ (s : List ℕ) (ok : Whole s) where
   pub few-pixels : pixels (headerFields s) ≤ 16777216
   few-pixels = size-limits _ _ (ok .head .size-fits) .count
+
+  pub few-words : length (bodyPart s) ≤ 2 ^ 40
+  few-words = let n = length-body s (ok .head) in let most = few-pixels in omega arith
+
+  pub strip-codes : AreCodes (bodyPart s)
+  strip-codes = are-codes (bodyStart (headerFields s)) (bodyPart s) (ok .channels)
 
   pub strip-key : IsKey (headerFields s .key)
   strip-key = let q = key-limits _ (ok .head .key-fits) in record { least = q .least; most = q .most }
