@@ -40,6 +40,14 @@ extern "C" {
 /* Words of the strip of a page. */
 #define DOFNIHET_STRIP_LENGTH(pixels) (3 * (size_t)(pixels) + 3)
 
+/* What a page is converted with. Write it by its fields' names, in C (dofnihet_page){ .width = 2, .height = 1, .key = 180 }: a field that a
+ * later version adds stands at the end, and one that is not named is 0. */
+typedef struct {
+    uint64_t width;
+    uint64_t height;
+    uint64_t key;
+} dofnihet_page;
+
 typedef struct {
     uint64_t number;
     uint64_t place;
@@ -72,28 +80,24 @@ typedef struct {
 } dofnihet_tally;
 
 /* Converts a picture of RGBE pixels, four bytes R, G, B, e each, left to right, top row first.
- * The strip, DOFNIHET_STRIP_LENGTH(width * height) words, is left in the output's front.
+ * The strip, DOFNIHET_STRIP_LENGTH(page.width * page.height) words, is left in the output's front.
  * Refuses with 1, 2, 3, 4, then the first byte that is too bright with 6. */
-dofnihet_outcome dofnihet_convert_rgbe(const uint8_t *source, size_t source_len, uint64_t width, uint64_t height, uint64_t key,
-                                       uint32_t *output, size_t output_len);
+dofnihet_outcome dofnihet_convert_rgbe(const uint8_t *source, size_t source_len, dofnihet_page page, uint32_t *output, size_t output_len);
 
 /* Converts a picture of IEEE 754 half floats, three bit patterns R, G, B a pixel; zero and negative numbers become black.
- * The strip, DOFNIHET_STRIP_LENGTH(width * height) words, is left in the output's front.
+ * The strip, DOFNIHET_STRIP_LENGTH(page.width * page.height) words, is left in the output's front.
  * Refuses with 1, 2, 3, 4, then the first element that is no number with 5. */
-dofnihet_outcome dofnihet_convert_half(const uint16_t *source, size_t source_len, uint64_t width, uint64_t height, uint64_t key,
-                                       uint32_t *output, size_t output_len);
+dofnihet_outcome dofnihet_convert_half(const uint16_t *source, size_t source_len, dofnihet_page page, uint32_t *output, size_t output_len);
 
 /* Converts a picture of IEEE 754 single floats, three bit patterns R, G, B a pixel; zero, negative and tiny numbers become black.
- * The strip, DOFNIHET_STRIP_LENGTH(width * height) words, is left in the output's front.
+ * The strip, DOFNIHET_STRIP_LENGTH(page.width * page.height) words, is left in the output's front.
  * Refuses with 1, 2, 3, 4, then the first element that is no number with 5 or too bright with 6. */
-dofnihet_outcome dofnihet_convert_single(const uint32_t *source, size_t source_len, uint64_t width, uint64_t height, uint64_t key,
-                                         uint32_t *output, size_t output_len);
+dofnihet_outcome dofnihet_convert_single(const uint32_t *source, size_t source_len, dofnihet_page page, uint32_t *output, size_t output_len);
 
 /* Converts a picture of stored channels, 256 * exponent + mantissa each or 0 for black, three a pixel: what dofnihet_unpack writes.
- * The strip, DOFNIHET_STRIP_LENGTH(width * height) words, is left in the output's front.
+ * The strip, DOFNIHET_STRIP_LENGTH(page.width * page.height) words, is left in the output's front.
  * Refuses with 1, 2, 3, 4, then the first element that is no channel with 8. */
-dofnihet_outcome dofnihet_convert_stored(const uint16_t *source, size_t source_len, uint64_t width, uint64_t height, uint64_t key,
-                                         uint32_t *output, size_t output_len);
+dofnihet_outcome dofnihet_convert_stored(const uint16_t *source, size_t source_len, dofnihet_page page, uint32_t *output, size_t output_len);
 
 /* Checks a strip: every other call on a strip makes the same checks itself.
  * Accepts it, or tells the first fault.

@@ -23,7 +23,8 @@ int main(void)
 {
     uint32_t strip[DOFNIHET_STRIP_LENGTH(PIXELS)];
     size_t words = DOFNIHET_STRIP_LENGTH(PIXELS);
-    dofnihet_outcome converted = dofnihet_convert_half(source, 3 * PIXELS, WIDTH, HEIGHT, 180, strip, words);
+    dofnihet_page page = {.width = WIDTH, .height = HEIGHT, .key = 180};
+    dofnihet_outcome converted = dofnihet_convert_half(source, 3 * PIXELS, page, strip, words);
     if (converted.number != 0)
         return refused("convert", converted.number, converted.place);
 

@@ -29,27 +29,33 @@ static void converted(const char *call, dofnihet_outcome told, const uint32_t *o
     print_words(output, count);
 }
 
+/* 1 x 1, and 2 x 1. */
+static const dofnihet_page one = {.width = 1, .height = 1, .key = 180};
+static const dofnihet_page two = {.width = 2, .height = 1, .key = 180};
+
 static void conversions(void)
 {
-    const uint8_t rgbe[] = {1, 1, 1, 136};
+    const uint8_t rgbe[] = {1, 1, 1, 136, 1, 1, 1, 0};
     const uint16_t half[] = {0x3C00, 0x3C01, 0x8000};
     const uint32_t single[] = {0x23000000, 0x23000001, 0x5B800000};
     const uint16_t stored[] = {0x80FF, 0x7FFF, 0};
     const uint16_t infinite[] = {0x3C00, 0xFC00, 0};
-    uint32_t output[7];
+    const dofnihet_page narrow = {.width = 0, .height = 1, .key = 180};
+    const dofnihet_page keyless = {.width = 1, .height = 1, .key = 0};
+    uint32_t output[10];
     memset(output, OLD, sizeof output);
-    converted("rgbe", dofnihet_convert_rgbe(rgbe, 4, 1, 1, 180, output, COUNT(output)), output, COUNT(output));
+    converted("rgbe", dofnihet_convert_rgbe(rgbe, 8, two, output, 10), output, 10);
     memset(output, OLD, sizeof output);
-    converted("half", dofnihet_convert_half(half, 3, 1, 1, 180, output, COUNT(output)), output, COUNT(output));
+    converted("half", dofnihet_convert_half(half, 3, one, output, 7), output, 7);
     memset(output, OLD, sizeof output);
-    converted("single", dofnihet_convert_single(single, 3, 1, 1, 180, output, COUNT(output)), output, COUNT(output));
+    converted("single", dofnihet_convert_single(single, 3, one, output, 7), output, 7);
     memset(output, OLD, sizeof output);
-    converted("stored", dofnihet_convert_stored(stored, 3, 1, 1, 180, output, COUNT(output)), output, COUNT(output));
+    converted("stored", dofnihet_convert_stored(stored, 3, one, output, 7), output, 7);
     memset(output, OLD, sizeof output);
-    converted("rgbe of width 0", dofnihet_convert_rgbe(rgbe, 4, 0, 1, 180, output, 7), output, 2);
-    converted("half infinite", dofnihet_convert_half(infinite, 3, 1, 1, 180, output, 7), output, 2);
-    converted("single of key 0", dofnihet_convert_single(single, 3, 1, 1, 0, output, 7), output, 2);
-    converted("stored into 5 words", dofnihet_convert_stored(stored, 3, 1, 1, 180, output, 5), output, 2);
+    converted("rgbe of width 0", dofnihet_convert_rgbe(rgbe, 8, narrow, output, 7), output, 2);
+    converted("half infinite", dofnihet_convert_half(infinite, 3, one, output, 7), output, 2);
+    converted("single of key 0", dofnihet_convert_single(single, 3, keyless, output, 7), output, 2);
+    converted("stored into 5 words", dofnihet_convert_stored(stored, 3, one, output, 5), output, 2);
 }
 
 static void print_header(const char *call, dofnihet_header told)

@@ -1,4 +1,4 @@
--- A tally's promise carries over to its answer in numbers. Assumes nothing.
+-- What tallying and mapping promise carries over to their answers in numbers. Assumes nothing.
 use Prim.Native.Nat.{ℕ}
 use mathlib.Core.Path.{_≡_, sym, ap, subst, _∙_}
 use mathlib.Core.List.{List}
@@ -15,15 +15,19 @@ use Rattle.refusal.specs.declared.Refusal.the-variants.{
   InvalidChannel,
   NoSuchRow,
 }
+use Rattle.refusal.specs.declared.Outcome.{Outcome}
+use Rattle.refusal.specs.declared.Verdict.{Verdict}
+use Rattle.refusal.specs.declared.Verdict.the-variants.{Accepted, Refused}
 use Rattle.refusal.specs.Refusals.{outcomeOf}
+use Rattle.refusal.specs.Verdicts.{reportOf}
 use Rattle.average.specs.declared.average.Average.the-variants.{Absent, Present}
 use Rattle.page.specs.declared.tally.TallyOrRefusal.{TallyOrRefusal}
 use Rattle.page.specs.declared.tally.TallyOrRefusal.the-variants.{Holds, Refuses}
-use Rattle.page.specs.Claims.{TallyPromise}
+use Rattle.page.specs.Claims.{TallyPromise, MapPromise}
 use Rattle.page.specs.Tallying.{tallyStrip}
 use Rattle.dofnihet.specs.declared.pages.TallyAnswer.{TallyAnswer}
 use Rattle.dofnihet.specs.Answers.{tallyAnswer}
-use Rattle.dofnihet.specs.Claims.{TallyBound}
+use Rattle.dofnihet.specs.Claims.{TallyBound, MapBound}
 
 -- no refusal has number 0
 numbered : (r : Refusal) (i : ℕ) → outcomeOf r i .number ≡ 0 → ⊥
@@ -37,6 +41,7 @@ numbered UnexpectedWord i e = omega (arith, e)
 numbered InvalidChannel i e = omega (arith, e)
 numbered NoSuchRow i e = omega (arith, e)
 
+-- a tally's promise
 bounded : (s : List ℕ) (a : TallyOrRefusal) → TallyPromise s a → TallyBound s (tallyAnswer a)
 bounded s (Holds t Absent) p = record { count = λ _. p .0; absent = λ _ _. p .1; mean = λ e. absurd (omega (arith, e)) }
 bounded s (Holds t (Present A stored)) p =
@@ -51,3 +56,8 @@ bounded s (Refuses r i) p =
 pub answered : (s : List ℕ) (a : TallyOrRefusal) (r : TallyAnswer) → r ≡ tallyAnswer a
     → (a ≡ tallyStrip s) × TallyPromise s a → (r ≡ tallyAnswer (tallyStrip s)) × TallyBound s r
 answered s a r q p = (q ∙ ap tallyAnswer (p .0), subst (TallyBound s) (sym q) (bounded s a (p .1)))
+
+-- mapping's promise
+pub map-bounded : (s : List ℕ) (v : Verdict) (r : Outcome) (bytes : List ℕ) → r ≡ reportOf v → MapPromise s v bytes → MapBound s r bytes
+map-bounded s Accepted r bytes q p = record { levels = λ _. p }
+map-bounded s (Refused x i) r bytes q p = record { levels = λ e. absurd (numbered x i (cc)) }

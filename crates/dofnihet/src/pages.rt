@@ -1,14 +1,11 @@
 // Pages tallied and mapped.
 ghost use mathlib.Core.Path.{_≡_};
 ghost use lib.ListN.{length};
-ghost use Rattle.refusal.specs.Verdicts.{reportOf};
 ghost use Rattle.strip.specs.Checks.{checkOutput};
-ghost use Rattle.refusal.specs.Output.{after};
 ghost use Rattle.page.specs.Mapping.{stripLevels};
 ghost use Rattle.page.specs.Tallying.{tallyStrip};
-ghost use Rattle.page.specs.Claims.{MapPromise};
-ghost use Rattle.dofnihet.specs.Answers.{tallyAnswer};
-ghost use Rattle.dofnihet.specs.Claims.{TallyBound};
+ghost use Rattle.dofnihet.specs.Answers.{tallyAnswer, Reports};
+ghost use Rattle.dofnihet.specs.Claims.{TallyBound, MapBound};
 use average::average::Average;
 use page::map::map;
 use page::tally::TallyOrRefusal;
@@ -78,9 +75,8 @@ pub extern "C" fn dofnihet_tally_of(strip: &[u32]) -> TallyAnswer
 // Three level bytes a pixel; a refusal leaves the output as it was.
 #[no_mangle]
 pub extern "C" fn dofnihet_map(strip: &[u32], output: &mut [u8]) -> Outcome
-    ensures outcome { λ r. ⌜ r ≡ reportOf (checkOutput (now (strip .entry)) (length (now (output .entry)))) ⌝ }
-    ensures content { λ _. ⌜ now (output .exit) ≡ after (checkOutput (now (strip .entry)) (length (now (output .entry)))) (stripLevels (now (strip .entry))) (now (output .entry)) ⌝ }
-    ensures bound { λ _. ⌜ MapPromise (now (strip .entry)) (checkOutput (now (strip .entry)) (length (now (output .entry)))) (now (output .exit)) ⌝ }
+    ensures answer { λ r. ⌜ Reports (checkOutput (now (strip .entry)) (length (now (output .entry)))) (stripLevels (now (strip .entry))) (now (output .entry)) r (now (output .exit)) ⌝ }
+    ensures bound { λ r. ⌜ MapBound (now (strip .entry)) r (now (output .exit)) ⌝ }
 {
     report(map(strip, output))
 }

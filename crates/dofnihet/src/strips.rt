@@ -3,9 +3,8 @@ ghost use mathlib.Core.Path.{_≡_};
 ghost use lib.ListN.{length};
 ghost use Rattle.refusal.specs.Verdicts.{reportOf};
 ghost use Rattle.strip.specs.Checks.{checkStrip, checkOutput};
-ghost use Rattle.refusal.specs.Output.{after};
 ghost use Rattle.strip.specs.Reading.{readHeader, stripCodes};
-ghost use Rattle.dofnihet.specs.Answers.{headerAnswer};
+ghost use Rattle.dofnihet.specs.Answers.{headerAnswer, Reports};
 use refusal::Outcome;
 use refusal::outcome_of;
 use refusal::report;
@@ -35,8 +34,7 @@ pub extern "C" fn dofnihet_check(strip: &[u32]) -> Outcome
 // The channels of a strip as 16-bit numbers; a refusal leaves the output as it was.
 #[no_mangle]
 pub extern "C" fn dofnihet_unpack(strip: &[u32], output: &mut [u16]) -> Outcome
-    ensures outcome { λ r. ⌜ r ≡ reportOf (checkOutput (now (strip .entry)) (length (now (output .entry)))) ⌝ }
-    ensures content { λ _. ⌜ now (output .exit) ≡ after (checkOutput (now (strip .entry)) (length (now (output .entry)))) (stripCodes (now (strip .entry))) (now (output .entry)) ⌝ }
+    ensures { λ r. ⌜ Reports (checkOutput (now (strip .entry)) (length (now (output .entry)))) (stripCodes (now (strip .entry))) (now (output .entry)) r (now (output .exit)) ⌝ }
 {
     report(unpack(strip, output))
 }

@@ -45,6 +45,17 @@ pub struct Header {
     pub key: u64,
 }
 
+impl Header {
+    /// The struct that C takes in its place.
+    fn page(self) -> raw::Page {
+        raw::Page {
+            width: self.width,
+            height: self.height,
+            key: self.key,
+        }
+    }
+}
+
 /// The average of the lit pixels: in steps, 256 to a power of two, and as a stored number.
 #[derive(Clone, Copy, Debug, PartialEq, Eq)]
 pub struct Average {

@@ -4,6 +4,14 @@ use crate::Source;
 
 #[repr(C)]
 #[derive(Clone, Copy, Debug, PartialEq, Eq)]
+pub struct Page {
+    pub width: u64,
+    pub height: u64,
+    pub key: u64,
+}
+
+#[repr(C)]
+#[derive(Clone, Copy, Debug, PartialEq, Eq)]
 pub struct Outcome {
     pub number: u64,
     pub place: u64,
@@ -42,42 +50,10 @@ pub struct Tally {
 }
 
 extern "C" {
-    fn dofnihet_convert_rgbe(
-        source: *const u8,
-        source_len: usize,
-        width: u64,
-        height: u64,
-        key: u64,
-        output: *mut u32,
-        output_len: usize,
-    ) -> Outcome;
-    fn dofnihet_convert_half(
-        source: *const u16,
-        source_len: usize,
-        width: u64,
-        height: u64,
-        key: u64,
-        output: *mut u32,
-        output_len: usize,
-    ) -> Outcome;
-    fn dofnihet_convert_single(
-        source: *const u32,
-        source_len: usize,
-        width: u64,
-        height: u64,
-        key: u64,
-        output: *mut u32,
-        output_len: usize,
-    ) -> Outcome;
-    fn dofnihet_convert_stored(
-        source: *const u16,
-        source_len: usize,
-        width: u64,
-        height: u64,
-        key: u64,
-        output: *mut u32,
-        output_len: usize,
-    ) -> Outcome;
+    fn dofnihet_convert_rgbe(source: *const u8, source_len: usize, page: Page, output: *mut u32, output_len: usize) -> Outcome;
+    fn dofnihet_convert_half(source: *const u16, source_len: usize, page: Page, output: *mut u32, output_len: usize) -> Outcome;
+    fn dofnihet_convert_single(source: *const u32, source_len: usize, page: Page, output: *mut u32, output_len: usize) -> Outcome;
+    fn dofnihet_convert_stored(source: *const u16, source_len: usize, page: Page, output: *mut u32, output_len: usize) -> Outcome;
     fn dofnihet_check(strip: *const u32, strip_len: usize) -> Outcome;
     fn dofnihet_unpack(strip: *const u32, strip_len: usize, output: *mut u16, output_len: usize) -> Outcome;
     fn dofnihet_map(strip: *const u32, strip_len: usize, output: *mut u8, output_len: usize) -> Outcome;
@@ -91,14 +67,14 @@ extern "C" {
 // the call asks for.
 
 pub fn convert(source: Source, header: crate::Header, output: &mut [u32]) -> Outcome {
-    let crate::Header { width, height, key } = header;
+    let page = header.page();
     let (to, room) = (output.as_mut_ptr(), output.len());
     unsafe {
         match source {
-            Source::Rgbe(s) => dofnihet_convert_rgbe(s.as_ptr(), s.len(), width, height, key, to, room),
-            Source::Half(s) => dofnihet_convert_half(s.as_ptr(), s.len(), width, height, key, to, room),
-            Source::Single(s) => dofnihet_convert_single(s.as_ptr(), s.len(), width, height, key, to, room),
-            Source::Stored(s) => dofnihet_convert_stored(s.as_ptr(), s.len(), width, height, key, to, room),
+            Source::Rgbe(s) => dofnihet_convert_rgbe(s.as_ptr(), s.len(), page, to, room),
+            Source::Half(s) => dofnihet_convert_half(s.as_ptr(), s.len(), page, to, room),
+            Source::Single(s) => dofnihet_convert_single(s.as_ptr(), s.len(), page, to, room),
+            Source::Stored(s) => dofnihet_convert_stored(s.as_ptr(), s.len(), page, to, room),
         }
     }
 }

@@ -1,0 +1,12 @@
+-- `dofnihet::sources::page_header` meets its contract. Assumes nothing.
+use borrow.Author.Needs.{needs}
+use Rattle.dofnihet.specs.Answers.{headerOf}
+use Rattle.dofnihet.proofs.sources.page_header.Statement.{statement}
+use Rattle.dofnihet.proofs.sources.page_header.Tie as tie
+
+returns : tie.Need-returns
+unfolding headerOf
+returns c = search needs
+
+pub page-header-spec : {M : Type 1} → statement M
+page-header-spec = tie.close (tie.spec returns)
