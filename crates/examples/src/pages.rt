@@ -12,7 +12,8 @@ use page::map::map;
 use page::tally::TallyOrRefusal;
 use page::tally::tally;
 use refusal::Verdict;
-use word::body::BODY_START;
+use strip::read::body;
+use strip::read::word_at;
 use word::body::pixel_in;
 use word::header::Header;
 
@@ -80,12 +81,9 @@ fn levels(strip: &[u32]) {
 }
 
 // The luminance of the first pixel.
-fn luminance(strip: &[u32; 6]) {
-    let pixel = pixel_in(
-        strip[BODY_START],
-        strip[BODY_START + 1],
-        strip[BODY_START + 2],
-    );
+fn luminance(strip: &[u32]) {
+    let words = body(strip);
+    let pixel = pixel_in(word_at(words, 0), word_at(words, 1), word_at(words, 2));
     match pixel_luminance(pixel) {
         Luminance::Lit(stored) => pair(stored.exponent as u64, stored.mantissa as u64),
         Luminance::Unlit => text(b"unlit"),
