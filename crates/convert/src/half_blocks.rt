@@ -7,6 +7,7 @@ ghost use Rattle.refusal.specs.declared.Verdict.the-variants.{Accepted};
 ghost use Rattle.word.specs.Placing.{firstRefusal};
 ghost use Rattle.convert.specs.Formats.{half, decodedSource};
 ghost use Rattle.convert.specs.Blocks.{IsPlain, AreCodes, BlockFits, StoresHalves};
+use number::order::lesser;
 use number::source::half_code;
 use number::source::one_less;
 use number::source::plain_half_code;
@@ -18,12 +19,6 @@ fn greater(a: u16, b: u16) -> u16
     ensures { λ r. ⌜ (a ≤ r) × (b ≤ r) ⌝ }
 {
     if a < b { b } else { a }
-}
-
-fn lesser(a: u16, b: u16) -> u16
-    ensures { λ r. ⌜ (r ≤ a) × (r ≤ b) ⌝ }
-{
-    if b < a { b } else { a }
 }
 
 // Whether no half is an infinity or no number; then none is refused.
