@@ -9,7 +9,6 @@ ghost use Rattle.convert.specs.Formats.{half, decodedSource};
 ghost use Rattle.convert.specs.Blocks.{IsPlain, AreCodes, BlockFits, StoresHalves};
 use number::order::lesser;
 use number::source::half_code;
-use number::source::one_less;
 use number::source::plain_half_code;
 use word::body::BODY_START;
 use word::body::channel_word;
@@ -42,7 +41,7 @@ fn is_plain(source: &[u16], start: usize) -> bool
     let mut least: u16 = 65535;
     let mut j: usize = 0;
     while j < BLOCK {
-        least = lesser(least, one_less(source[start + j]));
+        least = lesser(least, std::num::wrapping_sub_u16(source[start + j], 1));
         j += 1;
     }
     1023 <= least
