@@ -33,7 +33,8 @@ pub fn all_finite(source: &[u16]) -> bool
     most < 31744
 }
 
-// Whether no half of the block that begins at `start` is a positive subnormal number.
+// Whether no half of the block that begins at `start` is a positive subnormal number: one less than its bits, and 65535 for 0, is below 1023
+// for these alone.
 fn is_plain(source: &[u16], start: usize) -> bool
     requires { ⌜ start + 48 ≤ length (now source) ⌝ }
     ensures { λ r. ⌜ (r ≡ true → IsPlain (now (source .entry)) start) ⌝ }
