@@ -7,8 +7,8 @@ ghost use Rattle.refusal.specs.declared.Verdict.the-variants.{Accepted};
 ghost use Rattle.word.specs.Placing.{firstRefusal};
 ghost use Rattle.convert.specs.Formats.{half, decodedSource};
 ghost use Rattle.convert.specs.Blocks.{IsPlain, AreCodes, BlockFits, StoresHalves};
+use number::order::lesser;
 use number::source::half_code;
-use number::source::one_less;
 use number::source::plain_half_code;
 use word::body::BODY_START;
 use word::body::channel_word;
@@ -18,12 +18,6 @@ fn greater(a: u16, b: u16) -> u16
     ensures { λ r. ⌜ (a ≤ r) × (b ≤ r) ⌝ }
 {
     if a < b { b } else { a }
-}
-
-fn lesser(a: u16, b: u16) -> u16
-    ensures { λ r. ⌜ (r ≤ a) × (r ≤ b) ⌝ }
-{
-    if b < a { b } else { a }
 }
 
 // Whether no half is an infinity or no number; then none is refused.
@@ -39,7 +33,8 @@ pub fn all_finite(source: &[u16]) -> bool
     most < 31744
 }
 
-// Whether no half of the block that begins at `start` is a positive subnormal number.
+// Whether no half of the block that begins at `start` is a positive subnormal number: one less than its bits, and 65535 for 0, is below 1023
+// for these alone.
 fn is_plain(source: &[u16], start: usize) -> bool
     requires { ⌜ start + 48 ≤ length (now source) ⌝ }
     ensures { λ r. ⌜ (r ≡ true → IsPlain (now (source .entry)) start) ⌝ }
@@ -47,7 +42,7 @@ fn is_plain(source: &[u16], start: usize) -> bool
     let mut least: u16 = 65535;
     let mut j: usize = 0;
     while j < BLOCK {
-        least = lesser(least, one_less(source[start + j]));
+        least = lesser(least, std::num::wrapping_sub_u16(source[start + j], 1));
         j += 1;
     }
     1023 <= least

@@ -1,6 +1,6 @@
 -- The index of a luminance of channels near one another, by the octave of the weighted sum's quotient. Assumes nothing.
 use mathlib.Core.Path.{_≡_, refl, sym, ap, _∙_}
-use Prim.Native.Nat.{ℕ, _+_, _-_, _*_, _/_, _%_, _^_, _≤_, _<_, min}
+use Prim.Native.Nat.{ℕ, _+_, _-_, _*_, _/_, _%_, _^_, _≤_, _<_}
 use native.Mathlib.Nat.{lt-of-not-le, mul-le-mul-right}
 use native.Mathlib.Decide.{decLe}
 use native.Mathlib.Omega.{arith}
@@ -9,18 +9,15 @@ use Rattle.number.proofs.Laws.{_over_, Coded, unit, storedOf, cell}
 use Rattle.number.specs.declared.channel.Pixel.{Pixel}
 use Rattle.number.specs.declared.ratio.Stored.{Stored}
 use Rattle.luminance.specs.Pixels.{luminanceOf}
-use Rattle.luminance.specs.Codes.{indexOf}
+use Rattle.luminance.specs.Codes.{indexOf, octaveIndex}
 use Rattle.luminance.specs.declared.pixel.Luminance.{Luminance}
 use Rattle.luminance.proofs.Indices.{scaled-stored, all-lit, sum-index}
 
 -- of a quotient from 128 on: j octaves up, with the mantissa M
-abbrev pub octaves : (q : ℕ) → ℕ
-octaves q = min (min q (q / 2 + 128)) (min (q / 4 + 256) (q / 8 + 384))
-
 record Octave (q : ℕ) : Type 0 where
   pub j : ℕ
   pub M : ℕ
-  pub index : octaves q ≡ 128 * j + M
+  pub index : octaveIndex q ≡ 128 * j + M
   pub floor : M * 2 ^ j ≤ q
   pub ceiling : q < (M + 1) * 2 ^ j
   pub least : 128 ≤ M
@@ -29,7 +26,7 @@ record Octave (q : ℕ) : Type 0 where
 octave-of : (q : ℕ) → 128 ≤ q → q < 2048 → Octave q
 octave-of q low high = by (decLe 256 q) (decLe 512 q) (decLe 1024 q)
   where
-    in-octave : (j M : ℕ) → octaves q ≡ 128 * j + M → M * 2 ^ j ≤ q → q < (M + 1) * 2 ^ j → 128 ≤ M → M ≤ 255 → Octave q
+    in-octave : (j M : ℕ) → octaveIndex q ≡ 128 * j + M → M * 2 ^ j ≤ q → q < (M + 1) * 2 ^ j → 128 ≤ M → M ≤ 255 → Octave q
     in-octave j M index floor ceiling least most =
         record { j = j; M = M; index = index; floor = floor; ceiling = ceiling; least = least; most = most }
 
@@ -63,7 +60,7 @@ module _ (p : Pixel) {m n l x z s : ℕ} (red : Coded m (p .red)) (green : Coded
     (rx : (x < 8) × (x + n / 256 ≡ m / 256 + 4)) (bz : (z < 8) × (z + n / 256 ≡ l / 256 + 4))
     (sum : s ≡ (2 * (m % 256) + 1) * (27 * 2 ^ (x % 8)) + (2 * (n % 256) + 1) * (67 * 2 ^ 4) + (2 * (l % 256) + 1) * (6 * 2 ^ (z % 8)))
     (small : s < 2048 * 1600) (lit : n / 256 ≡ 0 → ⊥) where
-  pub near-index : (i : ℕ) → i < 2 ^ 16 → (i + 8704) % 2 ^ 16 ≡ 128 * (n / 256) + octaves (s / 64 / 25) → (i % 128 ≡ 0 → ⊥)
+  pub near-index : (i : ℕ) → i < 2 ^ 16 → (i + 8704) % 2 ^ 16 ≡ 128 * (n / 256) + octaveIndex (s / 64 / 25) → (i % 128 ≡ 0 → ⊥)
       → i ≡ indexOf (luminanceOf p)
   near-index i fits e other =
       let rx′ : (x < 48) × (x + n / 256 ≡ m / 256 + 4) = (omega arith, rx .1) in

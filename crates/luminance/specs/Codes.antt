@@ -1,7 +1,7 @@
 -- A pixel by the 16-bit forms of its channels, and its luminance as a number for tables. Assumes nothing.
 use mathlib.Core.Path.{_≡_}
 use mathlib.Core.List.{List}
-use Prim.Native.Nat.{ℕ, _+_, _-_, _*_, _/_, _%_, _^_, _≤_, _<_}
+use Prim.Native.Nat.{ℕ, _+_, _-_, _*_, _/_, _%_, _^_, _≤_, _<_, min}
 use lib.ListN.{getD}
 use Rattle.number.proofs.Laws.{IsCode, codeChannel}
 use Rattle.number.specs.declared.channel.Pixel.{Pixel}
@@ -38,6 +38,11 @@ pub record IsCut (number digits shift : ℕ) : Type 0 where
   pub least : 4096 ≤ digits
   pub most : digits < 8192
   pub within : shift ≤ 50
+
+-- How far the index of a quotient from 128 to 2047 lies behind that of an octave's beginning: 128 for each octave, and the quotient halved
+-- once for each. The least of these sums is the one of the quotient's own octave.
+abbrev pub octaveIndex : (quotient : ℕ) → ℕ
+octaveIndex q = min (min q (q / 2 + 128)) (min (q / 4 + 256) (q / 8 + 384))
 
 -- The index of a pixel's luminance, unless it is a multiple of 128.
 pub record IsNear (red green blue index : ℕ) : Type 0 where

@@ -1,8 +1,9 @@
 // The index of the luminance of a pixel whose channels lie near one another, in 16-bit and 32-bit numbers and without a branch, so that a
 // compiler can work out several at a time.
 ghost use mathlib.Core.Path.{_≡_};
-ghost use Prim.Native.Nat.{_+_, _*_, _/_, _%_, _^_, _≤_, _<_, min};
-ghost use Rattle.luminance.specs.Codes.{IsNear};
+ghost use Prim.Native.Nat.{_+_, _*_, _/_, _%_, _^_, _≤_, _<_};
+ghost use Rattle.luminance.specs.Codes.{IsNear, octaveIndex};
+use number::order::lesser;
 
 // The power of two of the last three binary digits of i.
 fn power(i: u16) -> u16
@@ -38,16 +39,9 @@ fn near_sum(red: u16, green: u16, blue: u16, r: u16, b: u16) -> u32
         + moved(12 * (blue % 256) + 6, b)
 }
 
-fn lesser(a: u16, b: u16) -> u16
-    ensures { λ r. ⌜ r ≡ min a b ⌝ }
-{
-    if b < a { b } else { a }
-}
-
-// How far the index of a quotient from 128 to 2047 lies behind that of an octave's beginning: 128 for each octave, and the quotient halved
-// once for each. The least of these sums is the one of the quotient's own octave.
+// How far the index of a quotient from 128 to 2047 lies behind that of an octave's beginning.
 fn octave_index(quotient: u16) -> u16
-    ensures { λ r. ⌜ r ≡ min (min quotient (quotient / 2 + 128)) (min (quotient / 4 + 256) (quotient / 8 + 384)) ⌝ }
+    ensures { λ r. ⌜ r ≡ octaveIndex quotient ⌝ }
 {
     lesser(
         lesser(quotient, quotient / 2 + 128),

@@ -4,7 +4,7 @@
 
 -- lists; fractions; the rule of storing, worths in units of 2^-137, and what is stored; channels and their worths
 pub use Rattle.number.specs.Lists.{Every}
-pub use Rattle.number.proofs.Lists.{every-map, every-take, stored-next}
+pub use Rattle.number.proofs.Lists.{every-map, every-take, Filled, filled-none, filled-next}
 pub use Rattle.number.specs.Fractions.{Frac, _over_, _·_, _÷_, _times_, power, twoToMinus, twoTo, Positive, Equal, AtMost, Below, Near}
 pub use Rattle.number.specs.Storing.{Normalised, Scales, IsMantissa, Promised, Stores, unit, worth, storedWorth, storedOf, ratioOf}
 pub use Rattle.number.specs.Channels.{IsLit, IsChannel, worthOf, codeOf, codeChannel, Coded, IsCode}

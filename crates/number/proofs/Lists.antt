@@ -1,4 +1,4 @@
--- Laws of what holds of every element, and of a table that is filled element by element. Assumes nothing.
+-- Laws of what holds of every element, and of a table that is filled entry by entry. Assumes nothing.
 use Prim.Native.Nat.{ℕ, zero, suc, _+_, _<_}
 use mathlib.Core.Path.{_≡_, sym, subst}
 use mathlib.Core.List.{List, [], _∷_}
@@ -18,12 +18,24 @@ module _ {X : Type 0} where
   every-take P (suc n) [] h = tt
   every-take P (suc n) (x ∷ xs) h = (h .0, every-take P n xs (h .1))
 
--- each element before number i has a property that goes by its number, and the next one is stored
-pub stored-next : (P : ℕ → ℕ → Type 0) (t : List ℕ) (i : ℕ) {w n : ℕ} → length t ≡ n → i < n
-    → ((j : ℕ) → j < i → P j (getD t j 0)) → P i w
-    → (length (set t i w) ≡ n) × ((j : ℕ) → j < i + 1 → P j (getD (set t i w) j 0))
-stored-next P t i {w} long inside before next = (
-  rw length-set long,
-  below-more (λ j. P j (getD (set t i w) j 0)) i (λ j h. subst (P j) (sym (getD-set-other t i j w 0 (λ q. omega arith))) (before j h))
-      (subst (P i) (sym (getD-set-same t i w 0 (omega arith))) next),
-)
+-- ---- a table that is filled entry by entry
+
+-- a table of n entries, of which each before number i has a property that goes by its number
+pub record Filled (P : ℕ → ℕ → Type 0) (n i : ℕ) (t : List ℕ) : Type 0 where
+  pub size : length t ≡ n
+  pub entry : (k : ℕ) → k < i → P k (getD t k 0)
+
+module _ {P : ℕ → ℕ → Type 0} {n : ℕ} {t : List ℕ} where
+  pub filled-none : length t ≡ n → Filled P n 0 t
+  filled-none long = record { size = long; entry = λ k h. absurd (omega arith) }
+
+  pub filled-next : {i w : ℕ} → Filled P n i t → i < n → P i w → Filled P n (i + 1) (set t i w)
+  filled-next {i} {w} before inside next =
+      let long = before .size in
+      record {
+        size = rw length-set long;
+        entry =
+            below-more (λ k. P k (getD (set t i w) k 0)) i
+            (λ k h. subst (P k) (sym (getD-set-other t i k w 0 (λ q. omega arith))) (before .entry k h))
+            (subst (P i) (sym (getD-set-same t i w 0 (omega arith))) next);
+      }

@@ -1,6 +1,6 @@
 // The numbers of a source picture as channels: IEEE halves and singles, and RGBE bytes. Any bits are taken.
 ghost use mathlib.Core.Path.{_≡_};
-ghost use Prim.Native.Nat.{_+_, _%_, _^_, _<_};
+ghost use Prim.Native.Nat.{_+_, _^_, _<_};
 ghost use Rattle.number.specs.Sources.{channelOfValue, fieldValue, halfValue, singleValue, rgbeValue, NotSubnormal, halfCode};
 use crate::channel::Channel;
 use crate::channel::Decoded;
@@ -47,13 +47,6 @@ pub fn half_to_channel(bits: u16) -> Decoded
     )
 }
 
-// One less than the bits of a half, and 65535 for 0: below 1023 for the positive subnormal numbers alone.
-pub fn one_less(bits: u16) -> u16
-    ensures { λ r. ⌜ r ≡ (bits + 65535) % 65536 ⌝ }
-{
-    if bits == 0 { 65535 } else { bits - 1 }
-}
-
 // The 16-bit form of the channel of a half that is no positive subnormal number, without a branch; 0 where the half is refused. A normal
 // half has its own exponent and first digits; a power of two has the exponent below, and the mantissa 255.
 pub fn plain_half_code(bits: u16) -> u16
@@ -66,11 +59,11 @@ pub fn plain_half_code(bits: u16) -> u16
     if bits == 0 { 0 } else { normal }
 }
 
-// The same for any half.
+// The same for any half. One less than its bits, and 65535 for 0, is below 1023 for the positive subnormal numbers alone.
 pub fn half_code(bits: u16) -> u16
     ensures { λ r. ⌜ r ≡ halfCode bits ⌝ }
 {
-    if one_less(bits) < 1023 {
+    if std::num::wrapping_sub_u16(bits, 1) < 1023 {
         decoded_code(half_to_channel(bits))
     } else {
         plain_half_code(bits)

@@ -6,7 +6,6 @@ pub mod ScaledTables
 pub mod Displays
 pub mod LevelSteps
 -- step 6 by factors
-pub mod Filling
 pub mod Powers
 pub mod Factors
 -- the second half of demand 3

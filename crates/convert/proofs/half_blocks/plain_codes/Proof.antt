@@ -1,16 +1,16 @@
 -- `convert::half_blocks::plain_codes` meets its contract. Assumes nothing.
 use borrow.Author.Needs.{needs}
 use Prim.Native.Nat.{_+_, _-_}
+use mathlib.Core.Path.{_≡_}
 use native.Mathlib.Omega.{arith}
 use lib.ListN.{getD}
-use denote.Ref.{now}
 use Rattle.number.specs.Sources.{halfCode}
-use Rattle.word.proofs.Blocks.{Filled, filled-next}
+use Rattle.number.proofs.Laws.{Filled, filled-none, filled-next}
 use Rattle.convert.proofs.half_blocks.plain_codes.Statement.{statement}
 use Rattle.convert.proofs.half_blocks.plain_codes.Tie as tie
 
 abbrev Inv-loop : tie.InvT-loop
-Inv-loop source start codes₀ j₀ codes j = Filled (λ k. halfCode (getD source (start + k) 0)) codes j
+Inv-loop source start codes₀ j₀ codes j = Filled (λ k w. w ≡ halfCode (getD source (start + k) 0)) 48 j codes
 
 abbrev μ-loop : tie.MeasureT-loop
 μ-loop source start codes₀ j₀ codes j = 48 - j
@@ -19,17 +19,15 @@ loop-again : tie.Need-loop-again Inv-loop μ-loop
 loop-again c =
     let t = c .before .before in
     let s = t .before .before .before .before in
-    let a = s .args in
-    filled-next (λ k. halfCode (getD (now (a .source)) (a .start + k) 0)) (t .before .loop .codes) _
-    (t .before .loop .inv) (t .loop-test .taken) (c .plain-half-code .ensures (s .pre .1 .plain _ (t .loop-test .taken)))
+    filled-next (t .before .loop .inv) (t .loop-test .taken) (c .plain-half-code .ensures (s .pre .1 .plain _ (t .loop-test .taken)))
 
 returns : tie.Need-returns Inv-loop μ-loop
-returns c = record { long = c .before .loop .inv .0; code = λ k h. c .before .loop .inv .1 k (omega arith) }
+returns c = record { long = c .before .loop .inv .size; code = λ k h. c .before .loop .inv .entry k (omega arith) }
 
 pub plain-codes-spec : {M : Type 1} → statement M
 plain-codes-spec =
     tie.close
     (tie.spec
-    Inv-loop μ-loop (λ c. (search needs, λ k h. absurd (omega arith))) (λ c. search needs) (λ c. search needs) (λ c. search needs)
+    Inv-loop μ-loop (λ c. filled-none (search needs)) (λ c. search needs) (λ c. search needs) (λ c. search needs)
     (λ c κs. search needs) (λ c. search needs) (λ c. search needs) (λ c. search needs) (λ c. search needs)
     loop-again (λ c. search needs) returns)
