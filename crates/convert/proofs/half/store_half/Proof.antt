@@ -38,8 +38,9 @@ loop-again c =
 returns : tie.Need-returns Inv-loop μ-loop
 returns c =
     let s = c .before .before in
-    let i = s .before .before .before .loop .inv in
-    halves-done _ _ _ (refl, s .store-each .ensures ∙ i .3 ∙ halves-all _ _ (c .pre)) (le-refl _)
+    let l = s .before .before .before in
+    let all = halves-all _ _ (l .before .before .before .before .pre) in
+    halves-done _ _ _ (refl, s .store-each .ensures ∙ l .loop .inv .3 ∙ all) (le-refl _)
 
 pub store-half-spec : {M : Type 1} → statement M
 store-half-spec =

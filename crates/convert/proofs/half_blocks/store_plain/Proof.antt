@@ -59,4 +59,4 @@ store-plain-spec =
     (tie.spec
     Inv-loop μ-loop (λ c. search needs) plain-codes-requires loop-holds (λ c. search needs) (λ c. search needs) (λ c. search needs)
     (λ c. search needs) (λ c. omega (arith, code-small (c .before))) add-body (λ c. search needs) (λ c. search needs)
-    (λ c. search needs) (λ c. search needs) (λ c. search needs) (λ c. search needs) loop-again (λ c. search needs) returns)
+    (λ c. search needs) (λ c. search needs) (λ c. search needs) loop-again (λ c. search needs) returns)

@@ -31,6 +31,6 @@ pub store-rgbe-spec : {M : Type 1} → statement M
 store-rgbe-spec =
     tie.close
     (tie.spec
-    Inv-loop μ-loop (λ c. (refl, writing-all _ _ (c .before .pre))) (λ c. omega arith) (λ c. omega arith) (λ c. omega arith)
+    Inv-loop μ-loop (λ c. (refl, writing-all _ _ (c .before .before .pre))) (λ c. omega arith) (λ c. omega arith) (λ c. omega arith)
     (λ c. omega arith) (λ c. omega arith) (λ c. omega arith) (λ c. omega arith) (λ c. omega arith) (λ c. omega arith)
     (λ c κs. omega arith) (λ c. search needs) (λ c. search needs) loop-again (λ c. search needs) returns)
