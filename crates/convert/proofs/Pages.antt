@@ -64,22 +64,11 @@ around : (hs ws : List ℕ) (e : ℕ) (t : List ℕ) → length hs + length ws <
 around hs ws e t fits =
     let k = length hs in
     let n = length ws in
-    let rest = drop n (drop k t) in
-    let front = length-take-le k t (omega arith) in
-    let long : k ≤ length (take k t ++ (ws ++ rest)) = rw (length-append (take k t) (ws ++ rest), front) (omega arith) in
-    let both = length-append hs ws in
-    let all = length-append (hs ++ ws) (e ∷ []) in
-    let next : length (hs ++ ws ++ e ∷ []) ≡ suc (k + n) = omega arith in
-    rw (
-      sets-front hs (take k t ++ (ws ++ rest)) long,
-      drop-at (take k t) (ws ++ rest) k front,
-      drop-drop n k t,
-      drop-cons t (k + n) 0 fits,
-      ← append-assoc hs ws (getD t (k + n) 0 ∷ drop (suc (k + n)) t),
-      set-at (hs ++ ws) (getD t (k + n) 0) (drop (suc (k + n)) t) e (k + n) both,
-      next,
-      append-snoc (hs ++ ws) e (drop (suc (k + n)) t),
-    )
+    let front : length (take k t) ≡ k = length-take-le k t (omega arith) in
+    let room : k ≤ length (putMid k n t ws) = simp length-append (omega arith) in
+    let both : length (hs ++ ws) ≡ k + n = length-append hs ws in
+    let next : length (hs ++ ws ++ e ∷ []) ≡ suc (k + n) = simp length-append (omega arith) in
+    rw (sets-front hs, drop-at, drop-drop, drop-cons t (k + n) 0, ← append-assoc hs ws, set-at, next, append-snoc)
 
 -- only this law knows where the channel words begin
 pub framed : (h : Header) (cs : List Channel) (t : List ℕ) → length cs ≡ 3 * pixels h → stripLength h ≤ length t
