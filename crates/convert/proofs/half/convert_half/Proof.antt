@@ -27,12 +27,6 @@ ok c =
     let p = c .before .before .before .before in
     page _ _ _ _ (sym (p .before .before .check-page .ensures) ∙ p .enum-told .given .1)
 
-store-frame-requires : tie.Need-store-frame-requires
-store-frame-requires c κs =
-    let o = c .before .before in
-    let p = ok (o .before .before .before .before) in
-    (p .size, p .key, omega (arith, o .output .given, p .fits))
-
 returns-3 : tie.Need-returns-3
 returns-3 c =
     let f = c .before .before in
@@ -51,4 +45,5 @@ convert-half-spec =
     (λ c κs. search needs) (λ c. search needs) (λ c. search needs) returns (λ c κs. search needs) (λ c. search needs)
     (λ c. search needs) returns-2 (λ c κs. search needs) (λ c κs. ok c .size) (λ c. omega (arith, ok (c .before) .fits)) (λ c. search needs)
     (λ c. search needs) (λ c. omega (arith, ok (c .before) .fits)) (λ c κs. omega (arith, ok (c .before .before) .long))
-    store-frame-requires (λ c. search needs) returns-3)
+    (λ c κs. let p = ok (c .before .before .before .before .before .before) in (p .size, p .key, omega arith)) (λ c. search needs)
+    returns-3)
