@@ -1,6 +1,6 @@
 // A picture of RGBE pixels into a strip.
 ghost use mathlib.Core.Path.{_≡_};
-ghost use Prim.Native.Nat.{_+_, _*_, _/_, _^_, _≤_, _<_};
+ghost use Prim.Native.Nat.{_+_, _*_, _/_, _^_, _<_};
 ghost use lib.ListN.{length, set};
 ghost use Rattle.word.specs.Words.{bodyWords};
 ghost use Rattle.word.specs.Placing.{firstRefusal, channelsOf};
