@@ -58,7 +58,7 @@ channel-count f n xs e = length-map (decodedSource f xs) (λ (p : Placed). chann
 
 -- ---- the channel words in the part of the output that is theirs, and the words around them
 
--- ws in the place of as many elements behind the first k, where k is the length of hs; then hs, and e behind both
+-- ws is put into t with as many elements before it as hs has; then hs before it and e behind it
 around : (hs ws : List ℕ) (e : ℕ) (t : List ℕ) → length hs + length ws < length t
     → set (sets (putMid (length hs) (length ws) t ws) 0 hs) (length hs + length ws) e ≡ onto (hs ++ ws ++ e ∷ []) t
 around hs ws e t fits =
@@ -70,7 +70,7 @@ around hs ws e t fits =
     let next : length (hs ++ ws ++ e ∷ []) ≡ suc (k + n) = simp length-append (omega arith) in
     rw (sets-front hs, drop-at, drop-drop, drop-cons t (k + n) 0, ← append-assoc hs ws, set-at, next, append-snoc)
 
--- only this law knows where the channel words begin
+-- the only law that knows where the channel words begin
 pub framed : (h : Header) (cs : List Channel) (t : List ℕ) → length cs ≡ 3 * pixels h → stripLength h ≤ length t
     → withFrame h (putMid (bodyStart h) (endIndex h - bodyStart h) t (bodyWords 0 cs)) ≡ onto (stripOf h cs) t
 framed h cs t n fits =

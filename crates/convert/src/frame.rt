@@ -26,7 +26,7 @@ pub fn body_start(header: Header) -> usize
     BODY_START
 }
 
-// The index of the end word, behind the last channel word.
+// The index of the end word, behind the last channel word, of a page within its limits.
 pub fn body_end(header: Header) -> usize
     requires { ⌜ sizeFits (header .width) (header .height) ≡ true ⌝ }
     ensures { λ r. ⌜ r ≡ endIndex header ⌝ }
@@ -64,7 +64,7 @@ pub fn decoded_word(k: usize, decoded: Decoded) -> u32
     channel_word(k, decoded_code(decoded))
 }
 
-// The words around the channels: size, key and end.
+// The words around the channels: size, key and end, of a page that was accepted for this output.
 pub fn store_frame(header: Header, output: &mut [u32])
     requires { ⌜ (sizeFits (header .width) (header .height) ≡ true) × (keyFits (header .key) ≡ true) × (stripLength header ≤ length (now output)) ⌝ }
     ensures { λ _. ⌜ now (output .exit) ≡ withFrame header (now (output .entry)) ⌝ }
