@@ -4,7 +4,6 @@ use mathlib.Core.Path.{_≡_, refl}
 use mathlib.Core.List.{List}
 use native.Mathlib.Omega.{arith}
 use lib.ListN.{length, getD, set}
-use lib.Seq.{sets}
 use Rattle.number.specs.declared.channel.Channel.{Channel}
 use Rattle.number.specs.declared.channel.Channel.the-variants.{Black, Lit}
 use Rattle.number.specs.declared.channel.Decoded.{Decoded}
@@ -15,7 +14,7 @@ use Rattle.number.proofs.Laws.{IsChannel, half-valid, half-finite}
 use Rattle.refusal.specs.declared.Verdict.{Verdict}
 use Rattle.word.specs.Words.{channelWord, bodyWords}
 use Rattle.word.specs.Placing.{channelsOf}
-use Rattle.word.proofs.Walks.{checking, checking-next, writing, writing-next, writing-done}
+use Rattle.word.proofs.Walks.{checking, checking-next, writing, writing-all, writing-next, writing-done}
 use Rattle.convert.specs.Formats.{half, halfElement, decodedSource}
 use Rattle.convert.specs.Blocks.{withHalves}
 
@@ -26,15 +25,15 @@ pub finite-next : (xs : List ℕ) (k most next : ℕ) {all : Verdict} → (most 
 finite-next xs k most next inv inside h small =
     checking-next _ _ xs k (inv (omega arith)) inside refl (half-finite (getD xs k 0) (omega arith))
 
--- ---- a loop that stores: at each turn the output, once all that are left are stored too, is the one that is meant
+-- ---- a loop that stores: at each turn the body, once all that are left are stored too, is the one that is meant
 
-pub halves-all : (xs t : List ℕ) → withHalves xs 0 t ≡ sets t 2 (bodyWords 0 (channelsOf (decodedSource half xs)))
-unfolding withHalves
-halves-all xs t = refl
+pub halves-all : (xs t : List ℕ) → length t ≡ length xs → withHalves xs 0 t ≡ bodyWords 0 (channelsOf (decodedSource half xs))
+unfolding withHalves writing
+halves-all xs t long = writing-all halfElement xs t long
 
 module _ (xs : List ℕ) (i : ℕ) (t : List ℕ) {n : ℕ} {u : List ℕ} (inv : (length t ≡ n) × (withHalves xs i t ≡ u)) where
   pub halves-next : {w : ℕ} → i < length xs → w ≡ channelWord i (halfCode (getD xs i 0))
-      → (length (set t (2 + i) w) ≡ n) × (withHalves xs (i + 1) (set t (2 + i) w) ≡ u)
+      → (length (set t i w) ≡ n) × (withHalves xs (i + 1) (set t i w) ≡ u)
   unfolding withHalves writing
   halves-next inside e = writing-next halfElement xs i t inv inside refl e
 
@@ -57,7 +56,7 @@ half-code-small b = go (channelOfValue (halfValue b)) refl
 pub block-next : (xs : List ℕ) (start j : ℕ) (t : List ℕ) {n w : ℕ} {u : List ℕ}
     → (j ≤ 48) × (length t ≡ n) × (withHalves xs (start + j) t ≡ u) → start + 48 ≤ length xs → j < 48
     → w ≡ channelWord (start + j) (halfCode (getD xs (start + j) 0))
-    → let t′ = set t (2 + (start + j)) w in (j + 1 ≤ 48) × (length t′ ≡ n) × (withHalves xs (start + (j + 1)) t′ ≡ u)
+    → let t′ = set t (start + j) w in (j + 1 ≤ 48) × (length t′ ≡ n) × (withHalves xs (start + (j + 1)) t′ ≡ u)
 block-next xs start j t inv within inside e =
     let q = halves-next xs (start + j) t (inv .1, inv .2) (omega arith) e in
     let k : start + (j + 1) ≡ start + j + 1 = omega arith in

@@ -11,7 +11,7 @@ use Rattle.refusal.specs.declared.Verdict.the-variants.{Accepted, Refused}
 use Rattle.refusal.specs.Verdicts.{andThen}
 use Rattle.word.specs.Words.{bodyWords}
 use Rattle.word.specs.Placing.{Placed, firstRefusal, channelsOf}
-use Rattle.word.proofs.Walks.{refusal-append}
+use Rattle.word.proofs.Walks.{refusal-append, words-whole}
 use Rattle.convert.specs.Formats.{rgbePixel, rgbePixels, rgbeWord}
 
 -- the four bytes at an index, and the rest
@@ -40,6 +40,14 @@ short i (r ∷ []) h = refl
 short i (r ∷ g ∷ []) h = refl
 short i (r ∷ g ∷ b ∷ []) h = refl
 short i (r ∷ g ∷ b ∷ e ∷ xs) h = absurd (omega arith)
+
+-- three channels a pixel
+pub length-pixels : (i : ℕ) (xs : List ℕ) → length (rgbePixels i xs) ≡ 3 * (length xs / 4)
+length-pixels i [] = refl
+length-pixels i (r ∷ []) = refl
+length-pixels i (r ∷ g ∷ []) = refl
+length-pixels i (r ∷ g ∷ b ∷ []) = refl
+length-pixels i (r ∷ g ∷ b ∷ e ∷ xs) = omega (arith, length-pixels (i + 4) xs)
 
 -- pixel p
 abbrev pub pixelAt : List ℕ → (p : ℕ) → List Placed
@@ -85,31 +93,28 @@ module _ (xs : List ℕ) (p : ℕ) {all : Verdict} (inv : firstRefusal (left xs 
 
 -- the words of the pixels that are left
 unfoldable pub writing : List ℕ → (p : ℕ) → List ℕ → List ℕ
-writing xs p t = sets t (2 + 3 * p) (bodyWords (3 * p) (channelsOf (left xs p)))
+writing xs p t = sets t (3 * p) (bodyWords (3 * p) (channelsOf (left xs p)))
 
-pub writing-all : (xs t : List ℕ) → writing xs 0 t ≡ sets t 2 (bodyWords 0 (channelsOf (rgbePixels 0 xs)))
+pub writing-all : (xs t : List ℕ) → length t ≡ 3 * (length xs / 4) → writing xs 0 t ≡ bodyWords 0 (channelsOf (rgbePixels 0 xs))
 unfolding writing left
-writing-all xs t = refl
+writing-all xs t long = words-whole (rgbePixels 0 xs) t (long ∙ sym (length-pixels 0 xs))
 
 module _ (xs : List ℕ) (p : ℕ) (t : List ℕ) {n : ℕ} {u : List ℕ} (inv : (length t ≡ n) × (writing xs p t ≡ u)) where
   pub writing-next : p < length xs / 4
       → let i = 4 * p in
       let k = 3 * p in
       let e = getD xs (i + 3) 0 in
-      let red = set t (2 + k) (rgbeWord k (getD xs i 0) e) in
-      let green = set red (2 + k + 1) (rgbeWord (k + 1) (getD xs (i + 1) 0) e) in
-      let blue = set green (2 + k + 2) (rgbeWord (k + 2) (getD xs (i + 2) 0) e) in
+      let red = set t k (rgbeWord k (getD xs i 0) e) in
+      let green = set red (k + 1) (rgbeWord (k + 1) (getD xs (i + 1) 0) e) in
+      let blue = set green (k + 2) (rgbeWord (k + 2) (getD xs (i + 2) 0) e) in
       (length blue ≡ n) × (writing xs (p + 1) blue ≡ u)
   unfolding writing
   writing-next inside =
       let k = 3 * p in
-      let e₁ : 3 * (p + 1) ≡ suc (suc (suc k)) = omega arith in
-      let e₂ : 2 + 3 * (p + 1) ≡ suc (suc (suc (2 + k))) = omega arith in
-      let f₁ : 2 + k + 1 ≡ suc (2 + k) = omega arith in
-      let f₂ : 2 + k + 2 ≡ suc (suc (2 + k)) = omega arith in
-      let g₁ : k + 1 ≡ suc k = omega arith in
-      let g₂ : k + 2 ≡ suc (suc k) = omega arith in
-      (simp length-set (inv .0), rw (e₂, e₁, f₁, f₂, g₁, g₂) (rw (left-next xs p inside) at (inv .1)))
+      let next : 3 * (p + 1) ≡ suc (suc (suc k)) = omega arith in
+      let green : k + 1 ≡ suc k = omega arith in
+      let blue : k + 2 ≡ suc (suc k) = omega arith in
+      (simp length-set (inv .0), rw (next, green, blue) (rw (left-next xs p inside) at (inv .1)))
 
   pub writing-done : length xs / 4 ≤ p → t ≡ u
   unfolding writing

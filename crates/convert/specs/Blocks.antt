@@ -19,17 +19,17 @@ pub record AreCodes (xs : List ℕ) (start : ℕ) (codes : List ℕ) : Type 0 wh
   pub long : length codes ≡ 48
   pub code : (j : ℕ) → j < 48 → getD codes j 0 ≡ halfCode (getD xs (start + j) 0)
 
--- a block of whole pixels within the source, and an output that has room for all words
+-- a block of whole pixels within the source, and a body that has room for all words
 pub record BlockFits (kinds : List ℕ) (start : ℕ) (xs t : List ℕ) : Type 0 where
   pub table : IsKinds kinds
   pub first : start % 3 ≡ 0
   pub within : start + 48 ≤ length xs
-  pub room : length xs + 2 ≤ length t
+  pub room : length xs ≤ length t
 
--- the output t once the words of the halves from number i on are stored in it
+-- the body t once the words of the halves from number i on are stored in it
 unfoldable pub withHalves : (xs : List ℕ) (i : ℕ) → List ℕ → List ℕ
-withHalves xs i t = sets t (2 + i) (bodyWords i (channelsOf (placed halfElement 0 i (drop i xs))))
+withHalves xs i t = sets t i (bodyWords i (channelsOf (placed halfElement 0 i (drop i xs))))
 
--- the words of the halves from number i on, up to j, are stored in t, which is u then: the words that are left give the same output
+-- the words of the halves from number i on, up to j, are stored in t, which is u then: the words that are left give the same body
 abbrev pub StoresHalves : (xs : List ℕ) (i j : ℕ) (t u : List ℕ) → Type 0
 StoresHalves xs i j t u = withHalves xs j u ≡ withHalves xs i t

@@ -2,7 +2,8 @@
 -- "Converting: 1, 2, 3, 4, then elements in order, 5 before 6; a stored row can only give 8 there."
 use Prim.Native.Nat.{ℕ, _*_}
 use mathlib.Core.List.{List, map}
-use lib.ListN.{length}
+use lib.ListN.{length, set}
+use lib.Seq.{sets}
 use lib.Dec.{leb, eqb}
 use Rattle.number.specs.Channels.{codeOf}
 use Rattle.refusal.specs.declared.Refusal.the-variants.{BadSize, BadKey, WrongLength, SmallOutput}
@@ -10,7 +11,7 @@ use Rattle.refusal.specs.declared.Verdict.{Verdict}
 use Rattle.refusal.specs.declared.Verdict.the-variants.{Accepted}
 use Rattle.refusal.specs.Verdicts.{require, andThen}
 use Rattle.word.specs.declared.header.Header.{Header}
-use Rattle.word.specs.Words.{pixels, sizeFits, keyFits, stripLength, stripOf}
+use Rattle.word.specs.Words.{pixels, sizeFits, keyFits, headWords, endWord, endIndex, stripLength, stripOf}
 use Rattle.word.specs.Placing.{firstRefusal, channelsOf}
 use Rattle.convert.specs.Formats.{Format, perPixel, decodedSource}
 
@@ -30,6 +31,10 @@ checkSource f h xs room = andThen (checkPage h (perPixel f) (length xs) room) (f
 -- "A source picture is converted with its width, height and key into a whole strip."
 abbrev pub converted : Format → Header → List ℕ → List ℕ
 converted f h xs = stripOf h (channelsOf (decodedSource f xs))
+
+-- the words around the channels, stored in the output t
+abbrev pub withFrame : Header → List ℕ → List ℕ
+withFrame h t = set (sets t 0 (headWords h)) (endIndex h) (endWord (pixels h))
 
 -- the channels of a source as 16-bit numbers
 abbrev pub sourceCodes : Format → List ℕ → List ℕ

@@ -1,11 +1,11 @@
-// What every conversion does: the checks of the page, and the words around the channels.
+// What every conversion does, whatever it reads: the checks of the page, where the channel words stand, and the words around them.
 ghost use mathlib.Core.Path.{_≡_};
 ghost use mathlib.Core.Bool.{true};
 ghost use Prim.Native.Nat.{_≤_};
-ghost use lib.ListN.{length, set};
+ghost use lib.ListN.{length};
 ghost use Rattle.number.specs.Channels.{codeOf, channelIn};
-ghost use Rattle.word.specs.Words.{pixels, sizeFits, keyFits, sizeWord, keyWord, channelWord, endWord, endIndex, stripLength};
-ghost use Rattle.convert.specs.Converting.{checkPage};
+ghost use Rattle.word.specs.Words.{sizeFits, keyFits, channelWord, bodyStart, endIndex, stripLength};
+ghost use Rattle.convert.specs.Converting.{checkPage, withFrame};
 use number::channel::Decoded;
 use number::channel::decoded_code;
 use refusal::Refusal;
@@ -18,6 +18,22 @@ use word::header::key_fits;
 use word::header::key_word;
 use word::header::size_fits;
 use word::header::size_word;
+
+// The index of the first channel word.
+pub fn body_start(header: Header) -> usize
+    ensures { λ r. ⌜ r ≡ bodyStart header ⌝ }
+{
+    BODY_START
+}
+
+// The index of the end word, behind the last channel word, of a page within its limits.
+pub fn body_end(header: Header) -> usize
+    requires { ⌜ sizeFits (header .width) (header .height) ≡ true ⌝ }
+    ensures { λ r. ⌜ r ≡ endIndex header ⌝ }
+{
+    let pixels = (header.width * header.height) as usize;
+    body_start(header) + 3 * pixels
+}
 
 // The checks of a source of so many elements, and an output of so many words.
 pub fn check_page(header: Header, per: u8, count: usize, room: usize) -> Verdict
@@ -35,7 +51,7 @@ pub fn check_page(header: Header, per: u8, count: usize, room: usize) -> Verdict
     if count != per as usize * pixels {
         return Verdict::Refused(Refusal::WrongLength, 0);
     }
-    if room < BODY_START + 3 * pixels + 1 {
+    if room < body_end(header) + 1 {
         return Verdict::Refused(Refusal::SmallOutput, 0);
     }
     Verdict::Accepted
@@ -48,16 +64,16 @@ pub fn decoded_word(k: usize, decoded: Decoded) -> u32
     channel_word(k, decoded_code(decoded))
 }
 
-// The words around the channels: size, key and end.
+// The words around the channels: size, key and end, of a page that was accepted for this output.
 pub fn store_frame(header: Header, output: &mut [u32])
     requires { ⌜ (sizeFits (header .width) (header .height) ≡ true) × (keyFits (header .key) ≡ true) × (stripLength header ≤ length (now output)) ⌝ }
-    ensures { λ _. ⌜ now (output .exit) ≡ set (set (set (now (output .entry)) 0 (sizeWord (header .width) (header .height))) 1 (keyWord (header .key))) (endIndex header) (endWord (pixels header)) ⌝ }
+    ensures { λ _. ⌜ now (output .exit) ≡ withFrame header (now (output .entry)) ⌝ }
 {
     let width = header.width;
     let height = header.height;
     let key = header.key;
     let pixels = width * height;
-    let end = BODY_START + 3 * (pixels as usize);
+    let end = body_end(header);
     output[0] = size_word(width as u16, height as u16);
     output[1] = key_word(key as u16);
     output[end] = end_word(pixels as u32) as u32;

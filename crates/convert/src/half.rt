@@ -1,13 +1,13 @@
 // A picture of half floats into a strip.
 ghost use mathlib.Core.Path.{_≡_};
-ghost use Prim.Native.Nat.{_+_, _≤_};
 ghost use lib.ListN.{length};
-ghost use lib.Seq.{sets};
 ghost use Rattle.word.specs.Words.{bodyWords};
 ghost use Rattle.word.specs.Placing.{firstRefusal, channelsOf};
 ghost use Rattle.refusal.specs.Output.{after};
 ghost use Rattle.convert.specs.Formats.{half, decodedSource};
 ghost use Rattle.convert.specs.Converting.{checkSource, converted};
+use crate::frame::body_end;
+use crate::frame::body_start;
 use crate::frame::check_page;
 use crate::frame::store_frame;
 use crate::half_blocks::all_finite;
@@ -39,18 +39,18 @@ fn check_half(source: &[u16]) -> Verdict
     Verdict::Accepted
 }
 
-// The channel words, behind the header words: whole blocks, then the rest.
-fn store_half(source: &[u16], output: &mut [u32])
-    requires { ⌜ length (now source) + 2 ≤ length (now output) ⌝ }
-    ensures { λ _. ⌜ now (output .exit) ≡ sets (now (output .entry)) 2 (bodyWords 0 (channelsOf (decodedSource half (now (source .entry))))) ⌝ }
+// The channel words: whole blocks, then the rest.
+fn store_half(source: &[u16], body: &mut [u32])
+    requires { ⌜ length (now body) ≡ length (now source) ⌝ }
+    ensures { λ _. ⌜ now (body .exit) ≡ bodyWords 0 (channelsOf (decodedSource half (now (source .entry)))) ⌝ }
 {
     let kinds = block_kinds();
     let mut start: usize = 0;
     while BLOCK <= source.len() - start {
-        store_block(&kinds, source, start, output);
+        store_block(&kinds, source, start, body);
         start += BLOCK;
     }
-    store_each(source, start, source.len(), output);
+    store_each(source, start, source.len(), body);
 }
 
 // A picture of half floats, 16 bits each, into the strip of a page; a refusal leaves the output as it was.
@@ -66,7 +66,9 @@ pub fn convert_half(source: &[u16], header: Header, output: &mut [u32]) -> Verdi
     let Verdict::Accepted = channels else {
         return channels;
     };
-    store_half(source, output);
+    let start = body_start(header);
+    let end = body_end(header);
+    store_half(source, &mut output[start..end]);
     store_frame(header, output);
     Verdict::Accepted
 }

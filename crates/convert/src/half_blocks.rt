@@ -10,7 +10,6 @@ ghost use Rattle.convert.specs.Blocks.{IsPlain, AreCodes, BlockFits, Sto
 use number::order::lesser;
 use number::source::half_code;
 use number::source::plain_half_code;
-use word::body::BODY_START;
 use word::body::channel_word;
 use word::kinds::BLOCK;
 
@@ -49,13 +48,13 @@ fn is_plain(source: &[u16], start: usize) -> bool
 }
 
 // The words of the halves from number `from` on, up to `end`.
-pub fn store_each(source: &[u16], from: usize, end: usize, output: &mut [u32])
-    requires { ⌜ (from ≤ end) × (end ≤ length (now source)) × (length (now source) + 2 ≤ length (now output)) ⌝ }
-    ensures { λ _. ⌜ StoresHalves (now (source .entry)) from end (now (output .entry)) (now (output .exit)) ⌝ }
+pub fn store_each(source: &[u16], from: usize, end: usize, body: &mut [u32])
+    requires { ⌜ (from ≤ end) × (end ≤ length (now source)) × (length (now source) ≤ length (now body)) ⌝ }
+    ensures { λ _. ⌜ StoresHalves (now (source .entry)) from end (now (body .entry)) (now (body .exit)) ⌝ }
 {
     let mut k = from;
     while k < end {
-        output[BODY_START + k] = channel_word(k, half_code(source[k]));
+        body[k] = channel_word(k, half_code(source[k]));
         k += 1;
     }
 }
@@ -74,27 +73,27 @@ fn plain_codes(source: &[u16], start: usize, codes: &mut [u16])
 
 // The words of the block that begins at `start`, where no half is a positive subnormal number. The codes are made first: they are half as
 // long as words, so that twice as many are made at a time.
-fn store_plain(kinds: &[u32], source: &[u16], start: usize, output: &mut [u32])
-    requires { ⌜ BlockFits (now kinds) start (now source) (now output) × IsPlain (now source) start ⌝ }
-    ensures { λ _. ⌜ StoresHalves (now (source .entry)) start (start + 48) (now (output .entry)) (now (output .exit)) ⌝ }
+fn store_plain(kinds: &[u32], source: &[u16], start: usize, body: &mut [u32])
+    requires { ⌜ BlockFits (now kinds) start (now source) (now body) × IsPlain (now source) start ⌝ }
+    ensures { λ _. ⌜ StoresHalves (now (source .entry)) start (start + 48) (now (body .entry)) (now (body .exit)) ⌝ }
 {
     let mut codes = [0u16; 48];
     plain_codes(source, start, &mut codes);
     let mut j: usize = 0;
     while j < BLOCK {
-        output[BODY_START + (start + j)] = kinds[j] + codes[j] as u32;
+        body[start + j] = kinds[j] + codes[j] as u32;
         j += 1;
     }
 }
 
 // The words of the block that begins at `start`.
-pub fn store_block(kinds: &[u32], source: &[u16], start: usize, output: &mut [u32])
-    requires { ⌜ BlockFits (now kinds) start (now source) (now output) ⌝ }
-    ensures { λ _. ⌜ StoresHalves (now (source .entry)) start (start + 48) (now (output .entry)) (now (output .exit)) ⌝ }
+pub fn store_block(kinds: &[u32], source: &[u16], start: usize, body: &mut [u32])
+    requires { ⌜ BlockFits (now kinds) start (now source) (now body) ⌝ }
+    ensures { λ _. ⌜ StoresHalves (now (source .entry)) start (start + 48) (now (body .entry)) (now (body .exit)) ⌝ }
 {
     if is_plain(source, start) {
-        store_plain(kinds, source, start, output);
+        store_plain(kinds, source, start, body);
     } else {
-        store_each(source, start, start + BLOCK, output);
+        store_each(source, start, start + BLOCK, body);
     }
 }

@@ -1,5 +1,5 @@
 // Source pictures into strips: RGBE, half and single floats, and stored channels.
-mod frame;
+pub mod frame;
 pub mod half;
 mod half_blocks;
 pub mod rgbe;

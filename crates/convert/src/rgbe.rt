@@ -1,20 +1,20 @@
 // A picture of RGBE pixels into a strip.
 ghost use mathlib.Core.Path.{_≡_};
-ghost use Prim.Native.Nat.{_+_, _*_, _/_, _^_, _≤_, _<_};
+ghost use Prim.Native.Nat.{_+_, _*_, _/_, _^_, _<_};
 ghost use lib.ListN.{length, set};
-ghost use lib.Seq.{sets};
 ghost use Rattle.word.specs.Words.{bodyWords};
 ghost use Rattle.word.specs.Placing.{firstRefusal, channelsOf};
 ghost use Rattle.refusal.specs.Output.{after};
 ghost use Rattle.convert.specs.Formats.{rgbe, rgbePixel, rgbeWord, decodedSource};
 ghost use Rattle.convert.specs.Converting.{checkSource, converted};
+use crate::frame::body_end;
+use crate::frame::body_start;
 use crate::frame::check_page;
 use crate::frame::decoded_word;
 use crate::frame::store_frame;
 use number::channel::Decoded;
 use number::source::rgbe_to_channel;
 use refusal::Verdict;
-use word::body::BODY_START;
 use word::body::verdict_at;
 use word::header::Header;
 
@@ -58,19 +58,19 @@ fn check_rgbe(source: &[u8]) -> Verdict
 }
 
 // The words of a pixel whose red channel is channel k.
-fn store_pixel(k: usize, red: u8, green: u8, blue: u8, exponent: u8, output: &mut [u32])
-    requires { ⌜ 2 + k + 2 < length (now output) ⌝ }
-    ensures { λ _. ⌜ now (output .exit) ≡ set (set (set (now (output .entry)) (2 + k) (rgbeWord k red exponent)) (2 + k + 1) (rgbeWord (k + 1) green exponent)) (2 + k + 2) (rgbeWord (k + 2) blue exponent) ⌝ }
+fn store_pixel(k: usize, red: u8, green: u8, blue: u8, exponent: u8, body: &mut [u32])
+    requires { ⌜ k + 2 < length (now body) ⌝ }
+    ensures { λ _. ⌜ now (body .exit) ≡ set (set (set (now (body .entry)) k (rgbeWord k red exponent)) (k + 1) (rgbeWord (k + 1) green exponent)) (k + 2) (rgbeWord (k + 2) blue exponent) ⌝ }
 {
-    output[BODY_START + k] = decoded_word(k, rgbe_to_channel(red, exponent));
-    output[BODY_START + k + 1] = decoded_word(k + 1, rgbe_to_channel(green, exponent));
-    output[BODY_START + k + 2] = decoded_word(k + 2, rgbe_to_channel(blue, exponent));
+    body[k] = decoded_word(k, rgbe_to_channel(red, exponent));
+    body[k + 1] = decoded_word(k + 1, rgbe_to_channel(green, exponent));
+    body[k + 2] = decoded_word(k + 2, rgbe_to_channel(blue, exponent));
 }
 
-// The channel words, behind the header words.
-fn store_rgbe(source: &[u8], output: &mut [u32])
-    requires { ⌜ 2 + 3 * (length (now source) / 4) ≤ length (now output) ⌝ }
-    ensures { λ _. ⌜ now (output .exit) ≡ sets (now (output .entry)) 2 (bodyWords 0 (channelsOf (decodedSource rgbe (now (source .entry))))) ⌝ }
+// The channel words.
+fn store_rgbe(source: &[u8], body: &mut [u32])
+    requires { ⌜ length (now body) ≡ 3 * (length (now source) / 4) ⌝ }
+    ensures { λ _. ⌜ now (body .exit) ≡ bodyWords 0 (channelsOf (decodedSource rgbe (now (source .entry)))) ⌝ }
 {
     let pixels = source.len() / 4;
     let mut p: usize = 0;
@@ -82,7 +82,7 @@ fn store_rgbe(source: &[u8], output: &mut [u32])
             source[at + 1],
             source[at + 2],
             source[at + 3],
-            output,
+            body,
         );
         p += 1;
     }
@@ -101,7 +101,9 @@ pub fn convert_rgbe(source: &[u8], header: Header, output: &mut [u32]) -> Verdic
     let Verdict::Accepted = channels else {
         return channels;
     };
-    store_rgbe(source, output);
+    let start = body_start(header);
+    let end = body_end(header);
+    store_rgbe(source, &mut output[start..end]);
     store_frame(header, output);
     Verdict::Accepted
 }

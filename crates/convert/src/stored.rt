@@ -1,20 +1,19 @@
 // A row of stored channels into a strip.
 ghost use mathlib.Core.Path.{_≡_};
-ghost use Prim.Native.Nat.{_+_, _≤_};
 ghost use lib.ListN.{length};
-ghost use lib.Seq.{sets};
 ghost use Rattle.word.specs.Words.{bodyWords};
 ghost use Rattle.word.specs.Placing.{firstRefusal, channelsOf};
 ghost use Rattle.refusal.specs.Output.{after};
 ghost use Rattle.convert.specs.Formats.{stored, decodedSource};
 ghost use Rattle.convert.specs.Converting.{checkSource, converted};
+use crate::frame::body_end;
+use crate::frame::body_start;
 use crate::frame::check_page;
 use crate::frame::decoded_word;
 use crate::frame::store_frame;
 use number::channel::Decoded;
 use number::channel::code_to_channel;
 use refusal::Verdict;
-use word::body::BODY_START;
 use word::body::verdict_at;
 use word::header::Header;
 
@@ -33,14 +32,14 @@ fn check_stored(source: &[u16]) -> Verdict
     Verdict::Accepted
 }
 
-// The channel words, behind the header words.
-fn store_stored(source: &[u16], output: &mut [u32])
-    requires { ⌜ length (now source) + 2 ≤ length (now output) ⌝ }
-    ensures { λ _. ⌜ now (output .exit) ≡ sets (now (output .entry)) 2 (bodyWords 0 (channelsOf (decodedSource stored (now (source .entry))))) ⌝ }
+// The channel words.
+fn store_stored(source: &[u16], body: &mut [u32])
+    requires { ⌜ length (now body) ≡ length (now source) ⌝ }
+    ensures { λ _. ⌜ now (body .exit) ≡ bodyWords 0 (channelsOf (decodedSource stored (now (source .entry)))) ⌝ }
 {
     let mut k: usize = 0;
     while k < source.len() {
-        output[BODY_START + k] = decoded_word(k, code_to_channel(source[k]));
+        body[k] = decoded_word(k, code_to_channel(source[k]));
         k += 1;
     }
 }
@@ -58,7 +57,9 @@ pub fn convert_stored(source: &[u16], header: Header, output: &mut [u32]) -> Ver
     let Verdict::Accepted = channels else {
         return channels;
     };
-    store_stored(source, output);
+    let start = body_start(header);
+    let end = body_end(header);
+    store_stored(source, &mut output[start..end]);
     store_frame(header, output);
     Verdict::Accepted
 }

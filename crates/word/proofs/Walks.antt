@@ -1,10 +1,10 @@
 -- Loops over a row: one that checks each element, one that stores each. Assumes nothing.
 use Prim.Native.Nat.{ℕ, suc, _+_, _<_, _≤_}
 use mathlib.Core.Path.{_≡_, refl, sym, ap, _∙_}
-use mathlib.Core.List.{List, [], _∷_, _++_}
+use mathlib.Core.List.{List, [], _∷_, _++_, append-nil}
 use native.Mathlib.Numerals.{add-one}
 use native.Mathlib.Omega.{arith}
-use lib.ListN.{length, getD, set, drop, length-set, drop-of-length-le}
+use lib.ListN.{length, getD, set, drop, length-set, length-map, drop-of-length-le}
 use lib.Seq.{drop-cons, sets}
 use Rattle.number.specs.declared.channel.Channel.{Channel}
 use Rattle.number.specs.declared.channel.Decoded.{Decoded}
@@ -14,6 +14,7 @@ use Rattle.refusal.specs.declared.Verdict.{Verdict}
 use Rattle.refusal.specs.declared.Verdict.the-variants.{Accepted}
 use Rattle.refusal.specs.Verdicts.{andThen}
 use Rattle.refusal.proofs.Laws.{and-assoc}
+use Rattle.refusal.proofs.Outputs.{sets-front}
 use Rattle.number.specs.Channels.{codeOf, channelIn}
 use Rattle.word.specs.Words.{channelWord, bodyWords}
 use Rattle.word.specs.Placing.{Placed, placed, verdictAt, firstRefusal, channelsOf}
@@ -70,27 +71,6 @@ module _ (vs : List ℕ) (i j : ℕ) (t : List ℕ) {n : ℕ} {u : List ℕ} (in
   unfolding storing
   storing-done h = rw (drop-of-length-le vs h) at (inv .1)
 
--- the words of the elements from number i on
-unfoldable pub writing : (f : ℕ → ℕ → Decoded) → List ℕ → (i : ℕ) → List ℕ → List ℕ
-writing f xs i t = sets t (2 + i) (bodyWords i (channelsOf (placed f 0 i (drop i xs))))
-
-pub writing-all : (f : ℕ → ℕ → Decoded) (xs t : List ℕ) → writing f xs 0 t ≡ sets t 2 (bodyWords 0 (channelsOf (placed f 0 0 xs)))
-unfolding writing
-writing-all f xs t = refl
-
-module _ (f : ℕ → ℕ → Decoded) (xs : List ℕ) (i : ℕ) (t : List ℕ) {n : ℕ} {u : List ℕ}
-    (inv : (length t ≡ n) × (writing f xs i t ≡ u)) where
-  pub writing-next : {w : ℕ} {d : Decoded} → i < length xs → d ≡ f i (getD xs i 0) → w ≡ channelWord i (codeOf (channelIn d))
-      → (length (set t (2 + i) w) ≡ n) × (writing f xs (i + 1) (set t (2 + i) w) ≡ u)
-  unfolding writing
-  writing-next inside decoded e =
-      let n : 2 + (i + 1) ≡ suc (2 + i) = omega arith in
-      (rw length-set (inv .0), rw (n, add-one i, e, decoded) (rw (drop-cons xs i 0 inside) at (inv .1)))
-
-  pub writing-done : length xs ≤ i → t ≡ u
-  unfolding writing
-  writing-done h = rw (drop-of-length-le xs h) at (inv .1)
-
 -- ---- lengths
 
 pub length-placed : (f : ℕ → ℕ → Decoded) (start k : ℕ) (xs : List ℕ) → length (placed f start k xs) ≡ length xs
@@ -100,3 +80,30 @@ length-placed f start k (x ∷ xs) = ap suc (length-placed f start (suc k) xs)
 pub length-words : (k : ℕ) (cs : List Channel) → length (bodyWords k cs) ≡ length cs
 length-words k [] = refl
 length-words k (c ∷ cs) = ap suc (length-words (suc k) cs)
+
+-- the words of a row fill an output that has one word for each channel
+pub words-whole : (ps : List Placed) (t : List ℕ) → length t ≡ length ps → sets t 0 (bodyWords 0 (channelsOf ps)) ≡ bodyWords 0 (channelsOf ps)
+words-whole ps t long =
+    let ws = bodyWords 0 (channelsOf ps) in
+    let n : length ws ≡ length t = length-words 0 (channelsOf ps) ∙ length-map ps (λ (p : Placed). channelIn (p .decoded)) ∙ sym long in
+    sets-front ws t (omega arith) ∙ rw (drop-of-length-le t {i = length ws} (omega arith), append-nil)
+
+-- ---- the words of the elements from number i on
+
+unfoldable pub writing : (f : ℕ → ℕ → Decoded) → List ℕ → (i : ℕ) → List ℕ → List ℕ
+writing f xs i t = sets t i (bodyWords i (channelsOf (placed f 0 i (drop i xs))))
+
+pub writing-all : (f : ℕ → ℕ → Decoded) (xs t : List ℕ) → length t ≡ length xs → writing f xs 0 t ≡ bodyWords 0 (channelsOf (placed f 0 0 xs))
+unfolding writing
+writing-all f xs t long = words-whole (placed f 0 0 xs) t (long ∙ sym (length-placed f 0 0 xs))
+
+module _ (f : ℕ → ℕ → Decoded) (xs : List ℕ) (i : ℕ) (t : List ℕ) {n : ℕ} {u : List ℕ}
+    (inv : (length t ≡ n) × (writing f xs i t ≡ u)) where
+  pub writing-next : {w : ℕ} {d : Decoded} → i < length xs → d ≡ f i (getD xs i 0) → w ≡ channelWord i (codeOf (channelIn d))
+      → (length (set t i w) ≡ n) × (writing f xs (i + 1) (set t i w) ≡ u)
+  unfolding writing
+  writing-next inside decoded e = (rw length-set (inv .0), rw (add-one i, e, decoded) (rw (drop-cons xs i 0 inside) at (inv .1)))
+
+  pub writing-done : length xs ≤ i → t ≡ u
+  unfolding writing
+  writing-done h = rw (drop-of-length-le xs h) at (inv .1)

@@ -43,14 +43,16 @@ returns-3 c =
 returns-4 : tie.Need-returns-4
 unfolding checkPage require
 returns-4 c =
-    let k = c .before .before in
-    simp (size (k .before .before), key k, eq-eqb _ _ (c .before .if3 .left), lt-leb _ _ (c .if4 .taken))
+    let e = c .before in
+    let k = e .before .before in
+    simp (size (k .before .before), key k, eq-eqb _ _ (e .before .if3 .left), lt-leb _ _ (rw (e .body-end .ensures) at (c .if4 .taken)))
 
 returns-5 : tie.Need-returns-5
 unfolding checkPage require
 returns-5 c =
-    let k = c .before .before in
-    simp (size (k .before .before), key k, eq-eqb _ _ (c .before .if3 .left), le-leb _ _ (c .if4 .left))
+    let e = c .before in
+    let k = e .before .before in
+    simp (size (k .before .before), key k, eq-eqb _ _ (e .before .if3 .left), le-leb _ _ (rw (e .body-end .ensures) at (c .if4 .left)))
 
 pub check-page-spec : {M : Type 1} → statement M
 check-page-spec =
@@ -58,6 +60,5 @@ check-page-spec =
     (tie.spec
     (λ c κs. search needs) returns (λ c κs. search needs) returns-2
     (λ c. omega (arith, size-limits _ _ (size (c .before .before)) .count)) mul-if3 returns-3
-    (λ c. omega (arith, size-limits _ _ (size (c .before .before .before)) .count))
-    (λ c. omega (arith, size-limits _ _ (size (c .before .before .before)) .count))
-    (λ c. omega (arith, size-limits _ _ (size (c .before .before .before)) .count)) returns-4 returns-5)
+    (λ c κs. size (c .before .before .before))
+    (λ c. omega (arith, size-limits _ _ (size (c .before .before .before .before)) .count)) returns-4 returns-5)

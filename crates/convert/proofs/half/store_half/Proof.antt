@@ -11,12 +11,12 @@ use Rattle.convert.proofs.half.store_half.Statement.{statement}
 use Rattle.convert.proofs.half.store_half.Tie as tie
 
 abbrev Inv-loop : tie.InvT-loop
-Inv-loop source output₀ kinds start₀ output start =
-    (start ≤ length source) × (start % 3 ≡ 0) × (length output ≡ length output₀)
-    × (withHalves source start output ≡ withHalves source 0 output₀)
+Inv-loop source body₀ kinds start₀ body start =
+    (start ≤ length source) × (start % 3 ≡ 0) × (length body ≡ length body₀)
+    × (withHalves source start body ≡ withHalves source 0 body₀)
 
 abbrev μ-loop : tie.MeasureT-loop
-μ-loop source output₀ kinds start₀ output start = length source - start
+μ-loop source body₀ kinds start₀ body start = length source - start
 
 store-block-requires : tie.Need-store-block-requires Inv-loop μ-loop
 store-block-requires c κs =
@@ -38,8 +38,9 @@ loop-again c =
 returns : tie.Need-returns Inv-loop μ-loop
 returns c =
     let s = c .before .before in
-    let i = s .before .before .before .loop .inv in
-    halves-done _ _ _ (refl, s .store-each .ensures ∙ i .3 ∙ halves-all _ _) (le-refl _)
+    let l = s .before .before .before in
+    let all = halves-all _ _ (l .before .before .before .before .pre) in
+    halves-done _ _ _ (refl, s .store-each .ensures ∙ l .loop .inv .3 ∙ all) (le-refl _)
 
 pub store-half-spec : {M : Type 1} → statement M
 store-half-spec =

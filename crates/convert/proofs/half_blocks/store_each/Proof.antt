@@ -10,18 +10,18 @@ use Rattle.convert.proofs.half_blocks.store_each.Statement.{statement}
 use Rattle.convert.proofs.half_blocks.store_each.Tie as tie
 
 abbrev Inv-loop : tie.InvT-loop
-Inv-loop source from end output₀ k₀ output k =
-    (k ≤ end) × (length output ≡ length output₀) × (withHalves source k output ≡ withHalves source from output₀)
+Inv-loop source from end body₀ k₀ body k =
+    (k ≤ end) × (length body ≡ length body₀) × (withHalves source k body ≡ withHalves source from body₀)
 
 abbrev μ-loop : tie.MeasureT-loop
-μ-loop source from end output₀ k₀ output k = end - k
+μ-loop source from end body₀ k₀ body k = end - k
 
 loop-again : tie.Need-loop-again Inv-loop μ-loop
 loop-again c =
     let t = c .before .before .before in
     let l = t .before .loop in
     let word = rw (c .before .half-code .ensures) at (c .channel-word .ensures) in
-    let n = halves-next _ _ (l .output) (l .inv .1, l .inv .2) (omega arith) word in
+    let n = halves-next _ _ (l .body) (l .inv .1, l .inv .2) (omega arith) word in
     (omega arith, n .0, n .1)
 
 returns : tie.Need-returns Inv-loop μ-loop
@@ -35,5 +35,4 @@ store-each-spec =
     tie.close
     (tie.spec
     Inv-loop μ-loop (λ c. (search needs, refl, refl)) (λ c. search needs) (λ c. search needs) (λ c κs. search needs) (λ c κs. search needs)
-    (λ c. search needs) (λ c. search needs) (λ c. search needs) (λ c. search needs) (λ c. search needs)
-    loop-again (λ c. search needs) returns)
+    (λ c. search needs) (λ c. search needs) (λ c. search needs) (λ c. search needs) loop-again (λ c. search needs) returns)

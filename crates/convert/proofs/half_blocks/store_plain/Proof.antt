@@ -11,11 +11,11 @@ use Rattle.convert.proofs.half_blocks.store_plain.Statement.{statement}
 use Rattle.convert.proofs.half_blocks.store_plain.Tie as tie
 
 abbrev Inv-loop : tie.InvT-loop
-Inv-loop kinds source start output₀ codes j₀ output j =
-    (j ≤ 48) × (length output ≡ length output₀) × (withHalves source (start + j) output ≡ withHalves source start output₀)
+Inv-loop kinds source start body₀ codes j₀ body j =
+    (j ≤ 48) × (length body ≡ length body₀) × (withHalves source (start + j) body ≡ withHalves source start body₀)
 
 abbrev μ-loop : tie.MeasureT-loop
-μ-loop kinds source start output₀ codes j₀ output j = 48 - j
+μ-loop kinds source start body₀ codes j₀ body j = 48 - j
 
 plain-codes-requires : tie.Need-plain-codes-requires Inv-loop μ-loop
 plain-codes-requires c κs = let p = c .before .before .before .before .pre in (p .0 .within, p .1, search needs)
@@ -31,8 +31,8 @@ code-small : (c : tie.In-loop Inv-loop μ-loop)
     → getD (c .before .before .before .plain-codes .last .1 .1 .0) (c .before .loop .j) 0 < 65536
 code-small c = rw (c .before .before .before .plain-codes .ensures .code _ (c .loop-test .taken)) (half-code-small _)
 
-add-output : tie.Need-add-output Inv-loop μ-loop
-add-output c =
+add-body : tie.Need-add-body Inv-loop μ-loop
+add-body c =
     let t = c .before in
     let p = t .before .before .before .before .before .before .before .before .pre .0 in
     omega (arith, p .table .word _ (t .loop-test .taken), code-small t)
@@ -44,7 +44,7 @@ loop-again c =
     let s = t .before .before .before in
     let p = s .before .before .before .before .before .pre .0 in
     let kind = kind-at _ _ _ (p .table) (p .first) (t .loop-test .taken) in
-    block-next _ _ _ (l .output) (l .inv) (p .within) (t .loop-test .taken)
+    block-next _ _ _ (l .body) (l .inv) (p .within) (t .loop-test .taken)
     (rw (kind, s .plain-codes .ensures .code _ (t .loop-test .taken)) (omega arith))
 
 returns : tie.Need-returns Inv-loop μ-loop
@@ -58,5 +58,5 @@ store-plain-spec =
     tie.close
     (tie.spec
     Inv-loop μ-loop (λ c. search needs) plain-codes-requires loop-holds (λ c. search needs) (λ c. search needs) (λ c. search needs)
-    (λ c. search needs) (λ c. omega (arith, code-small (c .before))) add-output (λ c. search needs) (λ c. search needs)
-    (λ c. search needs) (λ c. search needs) (λ c. search needs) (λ c. search needs) loop-again (λ c. search needs) returns)
+    (λ c. search needs) (λ c. omega (arith, code-small (c .before))) add-body (λ c. search needs) (λ c. search needs)
+    (λ c. search needs) (λ c. search needs) (λ c. search needs) loop-again (λ c. search needs) returns)

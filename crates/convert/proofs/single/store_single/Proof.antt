@@ -3,7 +3,6 @@ use borrow.Author.Needs.{needs}
 use Prim.Native.Nat.{_-_}
 use mathlib.Core.Path.{_≡_, refl}
 use lib.ListN.{length}
-use lib.Seq.{sets}
 use Rattle.word.specs.Words.{bodyWords}
 use Rattle.word.specs.Placing.{channelsOf}
 use Rattle.word.proofs.Walks.{writing, writing-all, writing-next, writing-done}
@@ -12,18 +11,17 @@ use Rattle.convert.proofs.single.store_single.Statement.{statement}
 use Rattle.convert.proofs.single.store_single.Tie as tie
 
 abbrev Inv-loop : tie.InvT-loop
-Inv-loop source output₀ k₀ output k =
-    (length output ≡ length output₀)
-    × (writing singleElement source k output ≡ sets output₀ 2 (bodyWords 0 (channelsOf (decodedSource single source))))
+Inv-loop source body₀ k₀ body k =
+    (length body ≡ length body₀) × (writing singleElement source k body ≡ bodyWords 0 (channelsOf (decodedSource single source)))
 
 abbrev μ-loop : tie.MeasureT-loop
-μ-loop source output₀ k₀ output k = length source - k
+μ-loop source body₀ k₀ body k = length source - k
 
 loop-again : tie.Need-loop-again Inv-loop μ-loop
 loop-again c =
     let t = c .before .before .before in
     let l = t .before .loop in
-    writing-next _ _ _ (l .output) (l .inv) (t .loop-test .taken) (c .before .single-to-channel .ensures) (c .decoded-word .ensures)
+    writing-next _ _ _ (l .body) (l .inv) (t .loop-test .taken) (c .before .single-to-channel .ensures) (c .decoded-word .ensures)
 
 returns : tie.Need-returns Inv-loop μ-loop
 returns c = writing-done _ _ _ _ (c .before .loop .inv) (c .loop-test .left)
@@ -32,6 +30,6 @@ pub store-single-spec : {M : Type 1} → statement M
 store-single-spec =
     tie.close
     (tie.spec
-    Inv-loop μ-loop (λ c. (refl, writing-all _ _ _)) (λ c. search needs) (λ c. search needs) (λ c κs. search needs)
-    (λ c κs. search needs) (λ c. search needs) (λ c. search needs) (λ c. search needs) (λ c. search needs) (λ c. search needs)
+    Inv-loop μ-loop (λ c. (refl, writing-all _ _ _ (c .before .before .pre))) (λ c. search needs) (λ c. search needs) (λ c κs. search needs)
+    (λ c κs. search needs) (λ c. search needs) (λ c. search needs) (λ c. search needs) (λ c. search needs)
     loop-again (λ c. search needs) returns)

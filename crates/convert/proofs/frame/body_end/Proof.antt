@@ -1,0 +1,14 @@
+-- `convert::frame::body_end` meets its contract: an accepted size has few pixels. Assumes nothing.
+use borrow.Author.Needs.{needs}
+use native.Mathlib.Omega.{arith}
+use Rattle.word.proofs.Limits.{size-limits}
+use Rattle.convert.proofs.frame.body_end.Statement.{statement}
+use Rattle.convert.proofs.frame.body_end.Tie as tie
+
+pub body-end-spec : {M : Type 1} → statement M
+body-end-spec =
+    tie.close
+    (tie.spec
+    (λ c. omega (arith, size-limits _ _ (c .before .pre) .count)) (λ c κs. search needs)
+    (λ c. omega (arith, size-limits _ _ (c .before .before .pre) .count))
+    (λ c. omega (arith, size-limits _ _ (c .before .before .pre) .count)) (λ c. search needs))
