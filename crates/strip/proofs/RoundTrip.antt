@@ -35,9 +35,8 @@ use Rattle.strip.specs.Reading.{stripChannels, stripPixels}
 use Rattle.word.proofs.Walks.{length-placed, length-words}
 use Rattle.word.proofs.Pixels.{length-pixels}
 use Rattle.word.proofs.Limits.{size-limits, key-limits}
-use Rattle.strip.proofs.Bodies.{word-read}
 use Rattle.strip.proofs.Limits.{Whole, length-body}
-use Rattle.word.proofs.Decoding.{holds, is-word}
+use Rattle.word.proofs.Decoding.{holds, is-word, word-read}
 
 -- ---- rows of elements that are read as channels, whatever f reads in one
 

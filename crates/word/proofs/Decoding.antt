@@ -1,15 +1,17 @@
 -- What an accepted channel word is. Assumes nothing.
-use Prim.Native.Nat.{ℕ}
+use Prim.Native.Nat.{ℕ, _^_, _<_}
 use mathlib.Core.Path.{_≡_, refl}
 use mathlib.Core.List.{List, [], _∷_, map}
 use mathlib.Core.Bool.{Bool, true, false, cond}
 use lib.Dec.{eqb}
-use borrow.Author.Tests.{eqb-true}
+use native.Mathlib.Omega.{arith}
+use borrow.Author.Tests.{eqb-true, eq-eqb}
 use Rattle.number.specs.declared.channel.Channel.{Channel}
+use Rattle.number.specs.declared.channel.Channel.the-variants.{Black, Lit}
 use Rattle.number.specs.declared.channel.Decoded.{Decoded}
 use Rattle.number.specs.declared.channel.Decoded.the-variants.{Holds, Refuses}
-use Rattle.number.specs.Channels.{channelOfCode, channelIn}
-use Rattle.number.proofs.Laws.{Coded, channel-code}
+use Rattle.number.specs.Channels.{IsChannel, codeOf, channelOfCode, channelIn}
+use Rattle.number.proofs.Laws.{Coded, channel-code, code-channel}
 use Rattle.refusal.specs.declared.Refusal.the-variants.{UnexpectedWord}
 use Rattle.refusal.specs.declared.Verdict.the-variants.{Accepted}
 use Rattle.refusal.proofs.Laws.{and-passed}
@@ -43,3 +45,16 @@ unfolding decodeWord
 is-word k w e =
     let q = kind-read (eqb w (channelWord k (low16 w))) (channelOfCode (low16 w)) _ e in
     record { written = eqb-true _ _ (q .0); coded = channel-code _ _ (q .1) }
+
+-- a channel's code has 16 bits
+pub code-small : (c : Channel) → IsChannel c → codeOf c < 2 ^ 16
+code-small Black t = omega arith
+code-small (Lit E M) t = omega (arith, t .most, t .mantissa .most)
+
+-- the word that a channel is written as is read as that channel
+pub word-read : (k : ℕ) (c : Channel) → IsChannel c → decodeWord k (channelWord k (codeOf c)) ≡ Holds c
+unfolding decodeWord
+word-read k c t =
+    let small = code-small c t in
+    let low : low16 (channelWord k (codeOf c)) ≡ codeOf c = omega arith in
+    simp (low, eq-eqb (channelWord k (codeOf c)) (channelWord k (codeOf c)) refl) (code-channel c t)

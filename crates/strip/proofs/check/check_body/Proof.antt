@@ -1,10 +1,8 @@
 -- `strip::check::check_body` meets its contract. Assumes nothing.
 use borrow.Author.Needs.{needs}
-use Prim.Native.Nat.{_+_, _<_, _^_}
 use mathlib.Core.Path.{_≡_, sym, _∙_}
 use native.Mathlib.Omega.{arith}
 use borrow.Author.Tests.{eq-eqb, ne-eqb}
-use lib.ListN.{length, take, drop, length-take}
 use denote.Ref.{now}
 use Rattle.refusal.specs.declared.Verdict.the-variants.{Accepted}
 use Rattle.refusal.specs.Verdicts.{require, andThen}
@@ -12,12 +10,8 @@ use Rattle.word.specs.Placing.{firstRefusal}
 use Rattle.word.specs.Words.{endIndex, endWord, pixels}
 use Rattle.word.proofs.Limits.{pixels-small}
 use Rattle.strip.specs.Checks.{wordAt, headerFields, decodedBody, checkBody}
-use Rattle.strip.proofs.Bodies.{body-small}
 use Rattle.strip.proofs.check.check_body.Statement.{statement}
 use Rattle.strip.proofs.check.check_body.Tie as tie
-
-check-channels-requires : tie.Need-check-channels-requires
-check-channels-requires c κs = rw (c .body .ensures) (omega (arith, c .before .body-start .ensures, body-small (now (c .before .before .before .args .strip))))
 
 told : (c : tie.After-check-channels)
     → c .check-channels .result ≡ firstRefusal (decodedBody (now (c .before .before .before .before .args .strip)))
@@ -52,6 +46,6 @@ pub check-body-spec : {M : Type 1} → statement M
 check-body-spec =
     tie.close
     (tie.spec
-    (λ c κs. search needs) (λ c κs. search needs) check-channels-requires (λ c. search needs) (λ c. search needs) returns
+    (λ c κs. search needs) (λ c. search needs) (λ c κs. search needs) (λ c κs. search needs) (λ c. search needs) (λ c. search needs) returns
     (λ c κs. search needs) (λ c κs. search needs) (λ c. search needs) (λ c κs. search needs)
     (λ c. omega (arith, pixels-small _ _ (c .declared-pixels .ensures))) (λ c κs. search needs) returns-2 returns-3)

@@ -1,13 +1,13 @@
--- `strip::check::quarters_hold` meets its contract. Assumes nothing.
+-- `channels::quarters_hold` meets its contract. Assumes nothing.
 use borrow.Author.Needs.{needs}
 use borrow.Author.Tests.{not-false}
 use Prim.Native.Nat.{ℕ, _+_, _*_, _/_, _%_}
 use mathlib.Core.Bool.{true, false}
 use mathlib.Core.Path.{_≡_, subst}
 use native.Mathlib.Omega.{arith}
-use Rattle.strip.proofs.Bodies.{held-until}
-use Rattle.strip.proofs.check.quarters_hold.Statement.{statement}
-use Rattle.strip.proofs.check.quarters_hold.Tie as tie
+use Rattle.channels.proofs.Held.{held-until}
+use Rattle.channels.proofs.quarters_hold.Statement.{statement}
+use Rattle.channels.proofs.quarters_hold.Tie as tie
 
 -- whole pixels twice over, and whole pixels more
 thirds : (k m : ℕ) → (2 * (3 * k) + 3 * m) % 3 ≡ 0

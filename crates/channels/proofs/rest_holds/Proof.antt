@@ -1,4 +1,4 @@
--- `strip::check::rest_holds` meets its contract: the words so far hold. Assumes nothing.
+-- `channels::rest_holds` meets its contract: the words so far hold. Assumes nothing.
 use borrow.Author.Needs.{needs}
 use borrow.Author.Tests.{not-false}
 use Prim.Native.Nat.{ℕ, _-_}
@@ -6,10 +6,10 @@ use mathlib.Core.Path.{_≡_}
 use native.Mathlib.Nat.{le-refl}
 use native.Mathlib.Omega.{arith}
 use lib.ListN.{length}
-use Rattle.strip.specs.Holding.{AllHold}
-use Rattle.strip.proofs.Bodies.{none-held, held-next, held-less}
-use Rattle.strip.proofs.check.rest_holds.Statement.{statement}
-use Rattle.strip.proofs.check.rest_holds.Tie as tie
+use Rattle.channels.specs.Holding.{AllHold}
+use Rattle.channels.proofs.Held.{none-held, held-next, held-less}
+use Rattle.channels.proofs.rest_holds.Statement.{statement}
+use Rattle.channels.proofs.rest_holds.Tie as tie
 
 abbrev Inv-loop : tie.InvT-loop
 Inv-loop words from k₀ k = AllHold words from k

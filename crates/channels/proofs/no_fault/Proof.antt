@@ -1,10 +1,10 @@
--- `strip::check::no_fault` meets its contract. Assumes nothing.
+-- `channels::no_fault` meets its contract. Assumes nothing.
 use Prim.Native.Nat.{ℕ}
 use mathlib.Core.Path.{_≡_}
 use native.Mathlib.Omega.{arith}
 use borrow.Author.Tests.{eqb-true}
-use Rattle.strip.proofs.check.no_fault.Statement.{statement}
-use Rattle.strip.proofs.check.no_fault.Tie as tie
+use Rattle.channels.proofs.no_fault.Statement.{statement}
+use Rattle.channels.proofs.no_fault.Tie as tie
 
 pub no-fault-spec : {M : Type 1} → statement M
 no-fault-spec =

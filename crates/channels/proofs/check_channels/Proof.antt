@@ -1,9 +1,9 @@
--- `strip::check::check_channels` meets its contract. Assumes nothing.
+-- `channels::check_channels` meets its contract. Assumes nothing.
 use borrow.Author.Needs.{needs}
 use mathlib.Core.Path.{sym}
-use Rattle.strip.proofs.Bodies.{held-accepted}
-use Rattle.strip.proofs.check.check_channels.Statement.{statement}
-use Rattle.strip.proofs.check.check_channels.Tie as tie
+use Rattle.channels.proofs.Held.{held-accepted}
+use Rattle.channels.proofs.check_channels.Statement.{statement}
+use Rattle.channels.proofs.check_channels.Tie as tie
 
 returns : tie.Need-returns
 returns c = sym (held-accepted _ _ (c .before .all-hold .ensures (c .if1 .taken)))

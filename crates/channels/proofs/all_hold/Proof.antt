@@ -1,13 +1,13 @@
--- `strip::check::all_hold` meets its contract: the words of the blocks so far hold, in each quarter. Assumes nothing.
+-- `channels::all_hold` meets its contract: the words of the blocks so far hold, in each quarter. Assumes nothing.
 use borrow.Author.Needs.{needs}
 use borrow.Author.Tests.{not-false}
 use Prim.Native.Nat.{ℕ, _-_, _%_, _≤_}
 use mathlib.Core.Path.{_≡_}
 use native.Mathlib.Omega.{arith}
-use Rattle.strip.specs.Holding.{QuartersHold}
-use Rattle.strip.proofs.Bodies.{held-append, no-quarters, quarters-append, quarters-whole}
-use Rattle.strip.proofs.check.all_hold.Statement.{statement}
-use Rattle.strip.proofs.check.all_hold.Tie as tie
+use Rattle.channels.specs.Holding.{QuartersHold}
+use Rattle.channels.proofs.Held.{held-append, no-quarters, quarters-append, quarters-whole}
+use Rattle.channels.proofs.all_hold.Statement.{statement}
+use Rattle.channels.proofs.all_hold.Tie as tie
 
 abbrev Inv-loop : tie.InvT-loop
 Inv-loop words kinds quarter start₀ start = (start ≤ quarter) × (start % 48 ≡ 0) × QuartersHold words quarter 0 start

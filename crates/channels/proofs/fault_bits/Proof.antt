@@ -1,9 +1,9 @@
--- `strip::check::fault_bits` meets its contract. Assumes nothing.
+-- `channels::fault_bits` meets its contract. Assumes nothing.
 use borrow.Author.Needs.{needs}
 use native.Mathlib.Omega.{arith}
-use Rattle.strip.proofs.Bodies.{black-holds, lit-holds}
-use Rattle.strip.proofs.check.fault_bits.Statement.{statement}
-use Rattle.strip.proofs.check.fault_bits.Tie as tie
+use Rattle.channels.proofs.Held.{black-holds, lit-holds}
+use Rattle.channels.proofs.fault_bits.Statement.{statement}
+use Rattle.channels.proofs.fault_bits.Tie as tie
 
 returns : tie.Need-returns
 returns c none = black-holds _ _ _ (c .before .before .before .before .wrapping-sub-u32 .ensures) (c .if1 .taken)

@@ -1,13 +1,13 @@
--- `strip::check::block_holds` meets its contract: as long as there is no fault, the words so far hold. Assumes nothing.
+-- `channels::block_holds` meets its contract: as long as there is no fault, the words so far hold. Assumes nothing.
 use borrow.Author.Needs.{needs}
 use Prim.Native.Nat.{_+_, _-_, _≤_}
 use mathlib.Core.Path.{_≡_}
 use native.Mathlib.Omega.{arith}
 use Rattle.word.proofs.Blocks.{kind-at}
-use Rattle.strip.specs.Holding.{NoFault, AllHold}
-use Rattle.strip.proofs.Bodies.{none-held, held-next}
-use Rattle.strip.proofs.check.block_holds.Statement.{statement}
-use Rattle.strip.proofs.check.block_holds.Tie as tie
+use Rattle.channels.specs.Holding.{NoFault, AllHold}
+use Rattle.channels.proofs.Held.{none-held, held-next}
+use Rattle.channels.proofs.block_holds.Statement.{statement}
+use Rattle.channels.proofs.block_holds.Tie as tie
 
 abbrev Inv-loop : tie.InvT-loop
 Inv-loop kinds words start bits₀ j₀ bits j = (j ≤ 48) × (NoFault bits → AllHold words start (start + j))

@@ -1,4 +1,4 @@
--- `strip::check::first_fault` meets its contract: at each turn the verdict on the words that are left is that on all. Assumes nothing.
+-- `channels::first_fault` meets its contract: at each turn the verdict on the words that are left is that on all. Assumes nothing.
 use borrow.Author.Needs.{needs}
 use Prim.Native.Nat.{_-_}
 use mathlib.Core.Path.{_≡_, refl}
@@ -6,8 +6,8 @@ use lib.ListN.{length}
 use Rattle.word.specs.Placing.{placed, firstRefusal}
 use Rattle.word.specs.Fields.{decodeWord}
 use Rattle.word.proofs.Walks.{checking, checking-all, checking-next, checking-refused, checking-done}
-use Rattle.strip.proofs.check.first_fault.Statement.{statement}
-use Rattle.strip.proofs.check.first_fault.Tie as tie
+use Rattle.channels.proofs.first_fault.Statement.{statement}
+use Rattle.channels.proofs.first_fault.Tie as tie
 
 abbrev Inv-loop : tie.InvT-loop
 Inv-loop start words k₀ k = checking decodeWord start words k ≡ firstRefusal (placed decodeWord start 0 words)
