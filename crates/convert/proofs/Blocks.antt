@@ -4,16 +4,15 @@ use mathlib.Core.Path.{_≡_, refl}
 use mathlib.Core.List.{List}
 use native.Mathlib.Omega.{arith}
 use lib.ListN.{length, getD, set}
-use Rattle.number.specs.declared.channel.Channel.{Channel}
-use Rattle.number.specs.declared.channel.Channel.the-variants.{Black, Lit}
 use Rattle.number.specs.declared.channel.Decoded.{Decoded}
 use Rattle.number.specs.declared.channel.Decoded.the-variants.{Holds, Refuses}
 use Rattle.number.specs.Channels.{codeOf, channelIn}
 use Rattle.number.specs.Sources.{channelOfValue, halfValue, halfCode}
-use Rattle.number.proofs.Laws.{IsChannel, half-valid, half-finite}
+use Rattle.number.proofs.Laws.{half-valid, half-finite}
 use Rattle.refusal.specs.declared.Verdict.{Verdict}
 use Rattle.word.specs.Words.{channelWord, bodyWords}
 use Rattle.word.specs.Placing.{channelsOf}
+use Rattle.word.proofs.Decoding.{code-small}
 use Rattle.word.proofs.Walks.{checking, checking-next, writing, writing-all, writing-next, writing-done}
 use Rattle.convert.specs.Formats.{half, halfElement, decodedSource}
 use Rattle.convert.specs.Blocks.{withHalves}
@@ -45,12 +44,8 @@ module _ (xs : List ℕ) (i : ℕ) (t : List ℕ) {n : ℕ} {u : List ℕ} (inv 
 pub half-code-small : (b : ℕ) → halfCode b < 65536
 half-code-small b = go (channelOfValue (halfValue b)) refl
   where
-    small : (c : Channel) → IsChannel c → codeOf c < 65536
-    small Black v = omega arith
-    small (Lit E M) v = omega (arith, v .most, v .mantissa .most)
-
     go : (d : Decoded) → channelOfValue (halfValue b) ≡ d → codeOf (channelIn d) < 65536
-    go (Holds c) e = small c (half-valid c b e)
+    go (Holds c) e = code-small c (half-valid c b e)
     go (Refuses r) e = omega arith
 
 pub block-next : (xs : List ℕ) (start j : ℕ) (t : List ℕ) {n w : ℕ} {u : List ℕ}

@@ -23,6 +23,7 @@ use crate::levels::WideLevels;
 use crate::levels::store_wide;
 use luminance::index::stored_at;
 use number::ratio::Stored;
+use strip::read::body;
 use tone::factor::at_most_255;
 use tone::factor::factor;
 use tone::factor::power_table;
@@ -30,7 +31,6 @@ use tone::factor::reciprocal_table;
 use tone::factor::wide_level;
 use tone::level::display_by;
 use tone::level::scaled_table;
-use strip::read::body;
 use word::header::low_half;
 
 // The most pixels of a block.
