@@ -6,7 +6,7 @@ use mathlib.Core.Bool.{true}
 use native.Mathlib.Omega.{arith}
 use borrow.Author.Tests.{eq-eqb, le-leb}
 use lib.ListN.{length, getD, take, length-map, length-append}
-use lib.Seq.{take-at, getD-at, take-suc, take-all}
+use lib.Seq.{take-at, getD-at, getD-append-add, take-suc, take-all}
 use Rattle.number.specs.declared.channel.Channel.{Channel}
 use Rattle.number.specs.declared.channel.Decoded.{Decoded}
 use Rattle.number.specs.declared.channel.Decoded.the-variants.{Holds}
@@ -16,7 +16,7 @@ use Rattle.refusal.specs.declared.Verdict.{Verdict}
 use Rattle.refusal.specs.declared.Verdict.the-variants.{Accepted}
 use Rattle.refusal.proofs.Laws.{and-passed, and-met, require-met}
 use Rattle.word.specs.declared.header.Header.{Header}
-use Rattle.word.specs.Words.{pixels, sizeFits, keyFits, sizeWord, keyWord, channelWord, bodyWords, endWord, bodyStart, endIndex, stripLength, stripOf}
+use Rattle.word.specs.Words.{pixels, sizeFits, keyFits, sizeWord, keyWord, headWords, channelWord, bodyWords, endWord, bodyStart, endIndex, stripLength, stripOf}
 use Rattle.word.specs.Placing.{Placed, placed, firstRefusal, channelsOf}
 use Rattle.strip.specs.Checks.{
   wordAt,
@@ -115,8 +115,9 @@ module _ (h : Header) (cs : List Channel) (ok : IsPage h cs) where
 
   end-written : wordAt (stripOf h cs) (endIndex (headerFields (stripOf h cs))) ≡ endWord (pixels (headerFields (stripOf h cs)))
   end-written =
-      let e : 2 + 3 * pixels h ≡ suc (suc (3 * pixels h)) = omega arith in
-      rw (width-read, height-read, e) (getD-at (bodyWords 0 cs) (endWord (pixels h)) [] 0 (3 * pixels h) words-long)
+      rw (width-read, height-read)
+      (getD-append-add (headWords h) (bodyWords 0 cs ++ endWord (pixels h) ∷ []) (3 * pixels h) 0
+      ∙ getD-at (bodyWords 0 cs) (endWord (pixels h)) [] 0 (3 * pixels h) words-long)
 
   head-accepted : checkHead (stripOf h cs) ≡ Accepted
   unfolding checkHead checkSizeWord checkKeyWord
@@ -168,8 +169,7 @@ same-words [] q = absurd (omega (arith, q .head .long))
 same-words (a ∷ []) q = absurd (omega (arith, q .head .long))
 same-words (a ∷ b ∷ xs) q =
     let n = 3 * (widthIn a * heightIn a) in
-    let e : 2 + n ≡ suc (suc n) = omega arith in
-    let last : getD xs n 0 ≡ endWord (widthIn a * heightIn a) = rw e at (q .end) in
+    let last : getD xs n 0 ≡ endWord (widthIn a * heightIn a) = sym (getD-append-add (a ∷ b ∷ []) xs n 0) ∙ q .end in
     rw (
       ← q .head .size,
       ← q .head .key,
