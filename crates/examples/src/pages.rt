@@ -13,7 +13,6 @@ use page::tally::TallyOrRefusal;
 use page::tally::tally;
 use refusal::Verdict;
 use strip::read::body;
-use strip::read::word_at;
 use word::body::pixel_in;
 use word::header::Header;
 
@@ -83,7 +82,10 @@ fn levels(strip: &[u32]) {
 // The luminance of the first pixel.
 fn luminance(strip: &[u32]) {
     let words = body(strip);
-    let pixel = pixel_in(word_at(words, 0), word_at(words, 1), word_at(words, 2));
+    if words.len() < 3 {
+        return;
+    }
+    let pixel = pixel_in(words[0], words[1], words[2]);
     match pixel_luminance(pixel) {
         Luminance::Lit(stored) => pair(stored.exponent as u64, stored.mantissa as u64),
         Luminance::Unlit => text(b"unlit"),

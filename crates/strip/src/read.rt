@@ -20,14 +20,14 @@ use word::header::pixel_count;
 use word::header::width_in;
 
 // The word at an index of a row; 0 where there is none.
-pub fn word_at(row: &[u32], i: usize) -> u32
+pub(crate) fn word_at(row: &[u32], i: usize) -> u32
     ensures { λ r. ⌜ r ≡ wordAt (now (row .entry)) i ⌝ }
 {
     if i < row.len() { row[i] } else { 0 }
 }
 
 // The pixels that the strip at the front of a row declares.
-pub fn declared_pixels(row: &[u32]) -> usize
+pub(crate) fn declared_pixels(row: &[u32]) -> usize
     ensures { λ r. ⌜ r ≡ pixels (headerFields (now (row .entry))) ⌝ }
 {
     pixel_count(word_at(row, 0))
@@ -41,7 +41,7 @@ pub fn body_start(row: &[u32]) -> usize
 }
 
 // The index of its end word.
-pub fn end_index(row: &[u32]) -> usize
+pub(crate) fn end_index(row: &[u32]) -> usize
     ensures { λ r. ⌜ r ≡ endIndex (headerFields (now (row .entry))) ⌝ }
 {
     body_start(row) + 3 * declared_pixels(row)
