@@ -6,7 +6,7 @@ use mathlib.Core.Bool.{true}
 use native.Mathlib.Omega.{arith}
 use borrow.Author.Tests.{eqb-true, leb-true}
 use borrow.Rule.Slice.PartMut.{putMid}
-use lib.ListN.{length, getD, set, take, drop, length-map, length-append}
+use lib.ListN.{length, set, take, length-map, length-append}
 use lib.Seq.{sets, length-take-le, drop-at, drop-drop, drop-cons, set-at, append-snoc}
 use Rattle.number.specs.declared.channel.Channel.{Channel}
 use Rattle.refusal.specs.declared.Refusal.{Refusal}
