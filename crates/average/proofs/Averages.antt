@@ -10,7 +10,8 @@ use lib.Signed.{_≤ℤ_, leZ-yes}
 use borrow.Author.Tests.{eqb-true, eqb-false}
 use Rattle.number.proofs.Laws.{same-difference}
 use Rattle.number.specs.declared.ratio.Stored.{Stored}
-use Rattle.average.specs.Averages.{floorDiv, floorMod, storedAverage, averageOf, IsSum, IsAverage, HasAverage, IsStoredAverage}
+use Rattle.average.specs.Averages.{floorDiv, floorMod, storedAverage, averageOf, IsAverage, IsStoredAverage}
+use Rattle.average.specs.loops.Sums.{IsSum, HasAverage}
 use Rattle.average.specs.declared.average.Average.the-variants.{Absent, Present}
 use Rattle.average.specs.Tables.{rootOf}
 use Rattle.average.proofs.Differences.{sub-pos, sub-plus, sub-least, sub-most, lowered}

@@ -1,6 +1,6 @@
 -- Steps 2 and 3: the steps of a luminance, their average and the stored average. Assumes nothing.
 use mathlib.Core.Bool.{cond}
-use Prim.Native.Nat.{ℕ, _+_, _-_, _*_, _/_, _%_, _^_, _≤_, _<_}
+use Prim.Native.Nat.{ℕ, _+_, _-_, _*_, _/_, _%_, _≤_}
 use lib.Dec.{eqb}
 use lib.IntN.{ℤ, pos, negsuc, negℤ, subℕ, natAbs, _+ℤ_}
 use lib.Signed.{_≤ℤ_}
@@ -41,16 +41,6 @@ averageOf count sum = cond (eqb count 0) Absent (Present (floorDiv sum count) (s
 pub record IsAverage (A : ℤ) : Type 0 where
   pub least : negℤ (pos 15630) ≤ℤ A
   pub most : A ≤ℤ pos 14335
-
--- the average of count and sum, where there is one, lies among them
-pub record HasAverage (count : ℕ) (sum : ℤ) : Type 0 where
-  pub in-range : 0 < count → IsAverage (floorDiv sum count)
-
--- a sum of the steps of at most 2^40 luminances
-pub record IsSum (count : ℕ) (sum : ℤ) : Type 0 where
-  pub few : count ≤ 2 ^ 40
-  pub least : negℤ (pos (15630 * count)) ≤ℤ sum
-  pub most : sum ≤ℤ pos (14335 * count)
 
 -- a stored average as step 3 gives it
 pub record IsStoredAverage (a : Stored) : Type 0 where

@@ -1,10 +1,7 @@
 -- The tables T and X, by their rules. Assumes nothing.
-use mathlib.Core.Path.{_≡_}
 use mathlib.Core.Bool.{Bool, cond}
-use mathlib.Core.List.{List}
-use Prim.Native.Nat.{ℕ, zero, suc, _+_, _*_, _^_, _<_}
+use Prim.Native.Nat.{ℕ, zero, suc, _+_, _*_, _^_}
 use lib.Dec.{leb}
-use lib.ListN.{getD}
 
 -- the greatest number up to n that passes the test, and 0 where none does
 unfoldable pub greatest : (ℕ → Bool) → ℕ → ℕ
@@ -25,14 +22,3 @@ rootTest f m = leb (m ^ 256) (2 ^ (1792 + f))
 
 unfoldable pub rootOf : ℕ → ℕ
 rootOf f = greatest (rootTest f) 255
-
--- a list of what the rule gives for 0, 1 and so on, below `size`
-pub record IsTable (size : ℕ) (rule : ℕ → ℕ) (entries : List ℕ) : Type 0 where
-  pub entry : (k : ℕ) → k < size → getD entries k 0 ≡ rule k
-
--- T[128] to T[255], and X[0] to X[255]
-abbrev pub IsLogTable : List ℕ → Type 0
-IsLogTable logs = IsTable 128 (λ k. logOf (128 + k)) logs
-
-abbrev pub IsRootTable : List ℕ → Type 0
-IsRootTable roots = IsTable 256 rootOf roots

@@ -16,10 +16,6 @@ sumOf (y ∷ ys) = stepsOf y +ℤ sumOf ys
 abbrev pub tallyOf : List Stored → Tally
 tallyOf ys = record { count = length ys; sum = sumOf ys }
 
--- a tally with one luminance more
-abbrev pub withLuminance : Tally → Stored → Tally
-withLuminance t y = record { count = t .count + 1; sum = t .sum +ℤ stepsOf y }
-
 -- the tally of two lists one after the other, from theirs
 abbrev pub join : Tally → Tally → Tally
 join t u = record { count = t .count + u .count; sum = t .sum +ℤ u .sum }

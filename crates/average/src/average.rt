@@ -2,7 +2,8 @@
 ghost use mathlib.Core.Path.{_≡_};
 ghost use lib.IntN.{pos, natAbs, _+ℤ_};
 ghost use lib.Signed.{_≤ℤ_};
-ghost use Rattle.average.specs.Averages.{storedAverage, averageOf, IsAverage, HasAverage};
+ghost use Rattle.average.specs.Averages.{storedAverage, averageOf, IsAverage};
+ghost use Rattle.average.specs.loops.Sums.{HasAverage};
 use crate::floor::floor_div;
 use crate::floor::floor_mod;
 use crate::tables::root;

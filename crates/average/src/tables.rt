@@ -1,6 +1,7 @@
 // The tables T and X, each proved by one test over all its entries.
 ghost use mathlib.Core.Path.{_≡_};
-ghost use Rattle.average.specs.Tables.{rootOf, IsLogTable, IsRootTable};
+ghost use Rattle.average.specs.Tables.{rootOf};
+ghost use Rattle.average.specs.loops.Entries.{IsLogTable, IsRootTable};
 
 // T[M] of the mantissas 128 to 255, at M - 128.
 const LOG_STEPS: [u16; 128] = [

@@ -20,7 +20,7 @@ use Rattle.word.specs.Pixels.{wordChannel}
 use Rattle.word.proofs.Decoding.{word-read}
 use Rattle.word.proofs.Pixels.{word-channel}
 use Rattle.word.proofs.Walks.{checking, checking-all, checking-next, checking-done}
-use Rattle.channels.specs.Holding.{NoFault, HoldsKind, AllHold, QuartersHold}
+use Rattle.channels.specs.loops.Holding.{NoFault, HoldsKind, AllHold, QuartersHold}
 
 -- the word of a channel holds it
 word-holds : (k w : ℕ) (c : Channel) → IsChannel c → w ≡ channelWord k (codeOf c) → decodeWord k w ≡ Holds (wordChannel w)

@@ -5,14 +5,14 @@ ghost use Prim.Native.Nat.{_+_, _*_, _%_, _≤_};
 ghost use lib.ListN.{length};
 ghost use Rattle.word.specs.Placing.{placed, firstRefusal};
 ghost use Rattle.word.specs.Fields.{decodeWord};
-ghost use Rattle.word.specs.Kinds.{IsKinds};
-ghost use Rattle.channels.specs.Holding.{QuartersHold, NoFault, HoldsKind, AllHold, BlockWithin};
+ghost use Rattle.word.specs.loops.Kinds.{IsKinds};
+ghost use Rattle.channels.specs.loops.Holding.{QuartersHold, NoFault, HoldsKind, AllHold, BlockWithin};
 use number::channel::Decoded;
 use refusal::Verdict;
 use word::body::channel_word;
 use word::body::decode_word;
 use word::body::verdict_at;
-use word::kinds::BLOCK;
+use word::kinds::BLOCK_WORDS;
 use word::kinds::block_kinds;
 
 // The 16-bit form of the least lit channel: exponent 72, mantissa 128.
@@ -56,7 +56,7 @@ fn block_holds(kinds: &[u32], words: &[u32], start: usize) -> bool
 {
     let mut bits: u32 = 0;
     let mut j: usize = 0;
-    while j < BLOCK {
+    while j < BLOCK_WORDS {
         bits = either(bits, fault_bits(kinds[j], words[start + j]));
         j += 1;
     }
@@ -100,13 +100,13 @@ fn all_hold(words: &[u32]) -> bool
     ensures { λ r. ⌜ (r ≡ true → AllHold (now (words .entry)) 0 (length (now (words .entry)))) ⌝ }
 {
     let kinds = block_kinds();
-    let quarter = words.len() / 192 * BLOCK;
+    let quarter = words.len() / 192 * BLOCK_WORDS;
     let mut start: usize = 0;
     while start < quarter {
         if !quarters_hold(&kinds, words, quarter, start) {
             return false;
         }
-        start += BLOCK;
+        start += BLOCK_WORDS;
     }
     rest_holds(words, 4 * quarter)
 }

@@ -1,4 +1,4 @@
 pub mod Pages
 pub mod Pixels
-pub mod Blocks
+pub mod HalfBlocks
 pub mod RoundTrip

@@ -22,7 +22,8 @@ use Rattle.refusal.specs.Output.{onto, after}
 use Rattle.refusal.proofs.Outputs.{sets-front}
 use Rattle.word.proofs.Walks.{length-placed, length-words}
 use Rattle.convert.specs.Formats.{Format, rgbe, half, single, stored, perPixel, decodedSource}
-use Rattle.convert.specs.Converting.{checkPage, checkSource, converted, withFrame}
+use Rattle.convert.specs.Converting.{checkFrame, checkSource, converted}
+use Rattle.convert.specs.loops.Stores.{withFrame}
 use Rattle.convert.proofs.Pixels.{length-pixels}
 
 pub record Page (h : Header) (per count room : ℕ) : Type 0 where
@@ -31,8 +32,8 @@ pub record Page (h : Header) (per count room : ℕ) : Type 0 where
   pub long : count ≡ per * pixels h
   pub fits : stripLength h ≤ room
 
-pub page : (h : Header) (per count room : ℕ) → checkPage h per count room ≡ Accepted → Page h per count room
-unfolding checkPage
+pub page : (h : Header) (per count room : ℕ) → checkFrame h per count room ≡ Accepted → Page h per count room
+unfolding checkFrame
 page h per count room e =
     let a = require-passed _ _ _ _ e in
     let b = require-passed _ _ _ _ (a .1) in
@@ -85,7 +86,7 @@ module _ (f : Format) (h : Header) (xs t : List ℕ) where
   abbrev Result : Verdict → List ℕ → Type 0
   Result v u = (v ≡ checkSource f h xs (length t)) × (u ≡ after v (converted f h xs) t)
 
-  module _ {p : Verdict} (e : p ≡ checkPage h (perPixel f) (length xs) (length t)) where
+  module _ {p : Verdict} (e : p ≡ checkFrame h (perPixel f) (length xs) (length t)) where
     pub page-refused : {r : Refusal} {i : ℕ} → p ≡ Refused r i → Result p t
     unfolding checkSource andThen
     page-refused told = (simp (sym e, told), simp told)

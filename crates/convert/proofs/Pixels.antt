@@ -12,7 +12,8 @@ use Rattle.refusal.specs.Verdicts.{andThen}
 use Rattle.word.specs.Words.{bodyWords}
 use Rattle.word.specs.Placing.{Placed, firstRefusal, channelsOf}
 use Rattle.word.proofs.Walks.{refusal-append, words-whole}
-use Rattle.convert.specs.Formats.{rgbePixel, rgbePixels, rgbeWord}
+use Rattle.convert.specs.Formats.{rgbePixel, rgbePixels}
+use Rattle.convert.specs.loops.Stores.{rgbeWord}
 
 -- the four bytes at an index, and the rest
 four : (xs : List ℕ) (i : ℕ) → i + 3 < length xs

@@ -45,7 +45,7 @@ use Rattle.convert.specs.Formats.{
   rgbePixels,
   decodedSource,
 }
-use Rattle.convert.specs.Converting.{checkPage, checkSource, converted}
+use Rattle.convert.specs.Converting.{checkFrame, checkSource, converted}
 use Rattle.convert.specs.Claims.{Yields, ReadsBack, WritesAgain, ConvertsByCodes}
 use Rattle.convert.proofs.Pages.{Page, page, channel-count}
 
@@ -74,7 +74,7 @@ elements-valid stored xs e = channels-valid storedElement (λ k n c h. channel-c
 -- ---- an accepted source is a page
 
 module _ (f : Format) (h : Header) (xs : List ℕ) (room : ℕ) (accepted : checkSource f h xs room ≡ Accepted) where
-  parts : (checkPage h (perPixel f) (length xs) room ≡ Accepted) × (firstRefusal (decodedSource f xs) ≡ Accepted)
+  parts : (checkFrame h (perPixel f) (length xs) room ≡ Accepted) × (firstRefusal (decodedSource f xs) ≡ Accepted)
   unfolding checkSource
   parts = and-passed _ _ accepted
 
@@ -119,7 +119,7 @@ codes-read k cs t =
 
 module _ (h : Header) (cs : List Channel) (p : IsPage h cs) where
   pub codes-accepted : (room : ℕ) → stripLength h ≤ room → checkSource stored h (map codeOf cs) room ≡ Accepted
-  unfolding checkSource checkPage
+  unfolding checkSource checkFrame
   codes-accepted room fits =
       let count : length (map codeOf cs) ≡ 3 * pixels h = length-map cs codeOf ∙ p .count in
       and-met

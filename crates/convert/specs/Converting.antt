@@ -2,8 +2,7 @@
 -- "Converting: 1, 2, 3, 4, then elements in order, 5 before 6; a stored row can only give 8 there."
 use Prim.Native.Nat.{ℕ, _*_}
 use mathlib.Core.List.{List, map}
-use lib.ListN.{length, set}
-use lib.Seq.{sets}
+use lib.ListN.{length}
 use lib.Dec.{leb, eqb}
 use Rattle.number.specs.Channels.{codeOf}
 use Rattle.refusal.specs.declared.Refusal.the-variants.{BadSize, BadKey, WrongLength, SmallOutput}
@@ -11,13 +10,13 @@ use Rattle.refusal.specs.declared.Verdict.{Verdict}
 use Rattle.refusal.specs.declared.Verdict.the-variants.{Accepted}
 use Rattle.refusal.specs.Verdicts.{require, andThen}
 use Rattle.word.specs.declared.header.Header.{Header}
-use Rattle.word.specs.Words.{pixels, sizeFits, keyFits, headWords, endWord, endIndex, stripLength, stripOf}
+use Rattle.word.specs.Words.{pixels, sizeFits, keyFits, stripLength, stripOf}
 use Rattle.word.specs.Placing.{firstRefusal, channelsOf}
 use Rattle.convert.specs.Formats.{Format, perPixel, decodedSource}
 
 -- the checks of a source of `count` elements, `per` of them a pixel, and of an output of `room` words
-unfoldable pub checkPage : Header → (per count room : ℕ) → Verdict
-checkPage h per count room =
+unfoldable pub checkFrame : Header → (per count room : ℕ) → Verdict
+checkFrame h per count room =
     require (sizeFits (h .width) (h .height)) BadSize 0
     (require (keyFits (h .key)) BadKey 0
     (require (eqb count (per * pixels h)) WrongLength 0
@@ -26,15 +25,11 @@ checkPage h per count room =
 
 -- An element is refused by one number only: what is no number by 5, and only what is one can be too bright.
 unfoldable pub checkSource : Format → Header → List ℕ → (room : ℕ) → Verdict
-checkSource f h xs room = andThen (checkPage h (perPixel f) (length xs) room) (firstRefusal (decodedSource f xs))
+checkSource f h xs room = andThen (checkFrame h (perPixel f) (length xs) room) (firstRefusal (decodedSource f xs))
 
 -- "A source picture is converted with its width, height and key into a whole strip."
 abbrev pub converted : Format → Header → List ℕ → List ℕ
 converted f h xs = stripOf h (channelsOf (decodedSource f xs))
-
--- the words around the channels, stored in the output t
-abbrev pub withFrame : Header → List ℕ → List ℕ
-withFrame h t = set (sets t 0 (headWords h)) (endIndex h) (endWord (pixels h))
 
 -- the channels of a source as 16-bit numbers
 abbrev pub sourceCodes : Format → List ℕ → List ℕ

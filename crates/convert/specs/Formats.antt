@@ -2,9 +2,8 @@
 use Prim.Native.Nat.{ℕ, _+_}
 use mathlib.Core.List.{List, [], _∷_, _++_}
 use Rattle.number.specs.declared.channel.Decoded.{Decoded}
-use Rattle.number.specs.Channels.{codeOf, channelOfCode, channelIn}
+use Rattle.number.specs.Channels.{channelOfCode}
 use Rattle.number.specs.Sources.{channelOfValue, halfValue, singleValue, rgbeValue}
-use Rattle.word.specs.Words.{channelWord}
 use Rattle.word.specs.Placing.{Placed, placed}
 
 -- "RGBE", "Half", "single", "Stored"
@@ -38,10 +37,6 @@ rgbeChannel i m e = record { index = i; decoded = channelOfValue (rgbeValue m e)
 -- the pixel whose bytes begin at the index i
 abbrev pub rgbePixel : (i r g b e : ℕ) → List Placed
 rgbePixel i r g b e = rgbeChannel i r e ∷ rgbeChannel (i + 1) g e ∷ rgbeChannel (i + 2) b e ∷ []
-
--- the word of channel k of a page that comes from byte m beside the exponent byte e
-abbrev pub rgbeWord : (k m e : ℕ) → ℕ
-rgbeWord k m e = channelWord k (codeOf (channelIn (channelOfValue (rgbeValue m e))))
 
 -- the pixels from the index i on; bytes that are no whole pixel stand for nothing
 abbrev pub rgbePixels : (i : ℕ) → List ℕ → List Placed

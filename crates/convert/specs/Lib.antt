@@ -1,4 +1,4 @@
 pub mod Formats
-pub mod Blocks
 pub mod Converting
 pub mod Claims
+pub mod loops

@@ -5,7 +5,8 @@ ghost use Prim.Native.Nat.{_≤_};
 ghost use lib.ListN.{length};
 ghost use Rattle.number.specs.Channels.{codeOf, channelIn};
 ghost use Rattle.word.specs.Words.{sizeFits, keyFits, channelWord, bodyStart, endIndex, stripLength};
-ghost use Rattle.convert.specs.Converting.{checkPage, withFrame};
+ghost use Rattle.convert.specs.Converting.{checkFrame};
+ghost use Rattle.convert.specs.loops.Stores.{withFrame};
 use number::channel::Decoded;
 use number::channel::decoded_code;
 use refusal::Refusal;
@@ -36,8 +37,8 @@ pub fn body_end(header: Header) -> usize
 }
 
 // The checks of a source of so many elements, and an output of so many words.
-pub fn check_page(header: Header, per: u8, count: usize, room: usize) -> Verdict
-    ensures { λ r. ⌜ r ≡ checkPage header per count room ⌝ }
+pub fn check_frame(header: Header, per: u8, count: usize, room: usize) -> Verdict
+    ensures { λ r. ⌜ r ≡ checkFrame header per count room ⌝ }
 {
     let width = header.width;
     let height = header.height;

@@ -8,7 +8,7 @@ ghost use Rattle.convert.specs.Formats.{half, decodedSource};
 ghost use Rattle.convert.specs.Converting.{checkSource, converted};
 use crate::frame::body_end;
 use crate::frame::body_start;
-use crate::frame::check_page;
+use crate::frame::check_frame;
 use crate::frame::store_frame;
 use crate::half_blocks::all_finite;
 use crate::half_blocks::store_block;
@@ -18,7 +18,7 @@ use number::source::half_to_channel;
 use refusal::Verdict;
 use word::body::verdict_at;
 use word::header::Header;
-use word::kinds::BLOCK;
+use word::kinds::BLOCK_WORDS;
 use word::kinds::block_kinds;
 
 // The first element that is no number or too bright.
@@ -46,9 +46,9 @@ fn store_half(source: &[u16], body: &mut [u32])
 {
     let kinds = block_kinds();
     let mut start: usize = 0;
-    while BLOCK <= source.len() - start {
+    while BLOCK_WORDS <= source.len() - start {
         store_block(&kinds, source, start, body);
-        start += BLOCK;
+        start += BLOCK_WORDS;
     }
     store_each(source, start, source.len(), body);
 }
@@ -58,7 +58,7 @@ pub fn convert_half(source: &[u16], header: Header, output: &mut [u32]) -> Verdi
     ensures verdict { λ r. ⌜ r ≡ checkSource half header (now (source .entry)) (length (now (output .entry))) ⌝ }
     ensures content { λ r. ⌜ now (output .exit) ≡ after r (converted half header (now (source .entry))) (now (output .entry)) ⌝ }
 {
-    let page = check_page(header, 3, source.len(), output.len());
+    let page = check_frame(header, 3, source.len(), output.len());
     let Verdict::Accepted = page else {
         return page;
     };

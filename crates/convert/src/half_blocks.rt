@@ -6,12 +6,12 @@ ghost use lib.ListN.{length};
 ghost use Rattle.refusal.specs.declared.Verdict.the-variants.{Accepted};
 ghost use Rattle.word.specs.Placing.{firstRefusal};
 ghost use Rattle.convert.specs.Formats.{half, decodedSource};
-ghost use Rattle.convert.specs.Blocks.{IsPlain, AreCodes, BlockFits, StoresHalves};
+ghost use Rattle.convert.specs.loops.HalfBlocks.{IsPlain, CodesOfHalves, BlockFits, StoresHalves};
 use number::order::lesser;
 use number::source::half_code;
 use number::source::plain_half_code;
 use word::body::channel_word;
-use word::kinds::BLOCK;
+use word::kinds::BLOCK_WORDS;
 
 fn greater(a: u16, b: u16) -> u16
     ensures { λ r. ⌜ (a ≤ r) × (b ≤ r) ⌝ }
@@ -40,7 +40,7 @@ fn is_plain(source: &[u16], start: usize) -> bool
 {
     let mut least: u16 = 65535;
     let mut j: usize = 0;
-    while j < BLOCK {
+    while j < BLOCK_WORDS {
         least = lesser(least, std::num::wrapping_sub_u16(source[start + j], 1));
         j += 1;
     }
@@ -62,10 +62,10 @@ pub fn store_each(source: &[u16], from: usize, end: usize, body: &mut [u32])
 // The codes of the block that begins at `start`, where no half is a positive subnormal number.
 fn plain_codes(source: &[u16], start: usize, codes: &mut [u16])
     requires { ⌜ (start + 48 ≤ length (now source)) × IsPlain (now source) start × (length (now codes) ≡ 48) ⌝ }
-    ensures { λ _. ⌜ AreCodes (now (source .entry)) start (now (codes .exit)) ⌝ }
+    ensures { λ _. ⌜ CodesOfHalves (now (source .entry)) start (now (codes .exit)) ⌝ }
 {
     let mut j: usize = 0;
-    while j < BLOCK {
+    while j < BLOCK_WORDS {
         codes[j] = plain_half_code(source[start + j]);
         j += 1;
     }
@@ -80,7 +80,7 @@ fn store_plain(kinds: &[u32], source: &[u16], start: usize, body: &mut [u32])
     let mut codes = [0u16; 48];
     plain_codes(source, start, &mut codes);
     let mut j: usize = 0;
-    while j < BLOCK {
+    while j < BLOCK_WORDS {
         body[start + j] = kinds[j] + codes[j] as u32;
         j += 1;
     }
@@ -94,6 +94,6 @@ pub fn store_block(kinds: &[u32], source: &[u16], start: usize, body: &mut [u32]
     if is_plain(source, start) {
         store_plain(kinds, source, start, body);
     } else {
-        store_each(source, start, start + BLOCK, body);
+        store_each(source, start, start + BLOCK_WORDS, body);
     }
 }

@@ -5,11 +5,12 @@ ghost use lib.ListN.{length, set};
 ghost use Rattle.word.specs.Words.{bodyWords};
 ghost use Rattle.word.specs.Placing.{firstRefusal, channelsOf};
 ghost use Rattle.refusal.specs.Output.{after};
-ghost use Rattle.convert.specs.Formats.{rgbe, rgbePixel, rgbeWord, decodedSource};
+ghost use Rattle.convert.specs.Formats.{rgbe, rgbePixel, decodedSource};
+ghost use Rattle.convert.specs.loops.Stores.{rgbeWord};
 ghost use Rattle.convert.specs.Converting.{checkSource, converted};
 use crate::frame::body_end;
 use crate::frame::body_start;
-use crate::frame::check_page;
+use crate::frame::check_frame;
 use crate::frame::decoded_word;
 use crate::frame::store_frame;
 use number::channel::Decoded;
@@ -93,7 +94,7 @@ pub fn convert_rgbe(source: &[u8], header: Header, output: &mut [u32]) -> Verdic
     ensures verdict { λ r. ⌜ r ≡ checkSource rgbe header (now (source .entry)) (length (now (output .entry))) ⌝ }
     ensures content { λ r. ⌜ now (output .exit) ≡ after r (converted rgbe header (now (source .entry))) (now (output .entry)) ⌝ }
 {
-    let page = check_page(header, 4, source.len(), output.len());
+    let page = check_frame(header, 4, source.len(), output.len());
     let Verdict::Accepted = page else {
         return page;
     };

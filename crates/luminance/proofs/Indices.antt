@@ -27,7 +27,7 @@ use Rattle.number.specs.declared.channel.Channel.the-variants.{Black, Lit}
 use Rattle.number.specs.declared.channel.Pixel.{Pixel}
 use Rattle.number.specs.declared.ratio.Stored.{Stored}
 use Rattle.luminance.specs.Pixels.{luminanceOf, IsLuminance}
-use Rattle.luminance.specs.Codes.{indexOf, indexCount, storedAt, IsCut}
+use Rattle.luminance.specs.loops.Codes.{indexOf, indexCount, storedAt, IsCut}
 use Rattle.luminance.specs.declared.pixel.Luminance.{Luminance}
 use Rattle.luminance.proofs.Storables.{shut}
 use Rattle.luminance.proofs.Luminances.{red-lit}

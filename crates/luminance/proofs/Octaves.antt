@@ -9,7 +9,7 @@ use Rattle.number.proofs.Laws.{_over_, Coded, unit, storedOf, cell}
 use Rattle.number.specs.declared.channel.Pixel.{Pixel}
 use Rattle.number.specs.declared.ratio.Stored.{Stored}
 use Rattle.luminance.specs.Pixels.{luminanceOf}
-use Rattle.luminance.specs.Codes.{indexOf, octaveIndex}
+use Rattle.luminance.specs.loops.Codes.{indexOf, octaveIndex}
 use Rattle.luminance.specs.declared.pixel.Luminance.{Luminance}
 use Rattle.luminance.proofs.Indices.{scaled-stored, all-lit, sum-index}
 

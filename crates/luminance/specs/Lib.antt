@@ -1,2 +1,2 @@
 pub mod Pixels
-pub mod Codes
+pub mod loops

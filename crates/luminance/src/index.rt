@@ -3,7 +3,7 @@ ghost use mathlib.Core.Path.{_≡_};
 ghost use Prim.Native.Nat.{_+_, _-_, _*_, _/_, _^_, _≤_, _<_, min};
 ghost use Rattle.number.proofs.Laws.{IsCode, codeChannel};
 ghost use Rattle.luminance.specs.Pixels.{luminanceOf};
-ghost use Rattle.luminance.specs.Codes.{codePixel, indexOf, indexCount, storedAt, IsWeightTable, IsCut};
+ghost use Rattle.luminance.specs.loops.Codes.{codePixel, indexOf, indexCount, storedAt, IsWeightTable, IsCut};
 use crate::pixel::Luminance;
 use crate::pixel::pixel_luminance;
 use number::channel::Channel;
@@ -79,7 +79,7 @@ fn cut_index(digits: u32, shift: u64, green: u64) -> u64
 }
 
 // The index of an unlit pixel.
-const UNLIT: u64 = 0;
+const UNLIT_INDEX: u64 = 0;
 
 // The channel of a code.
 fn code_channel(code: u16) -> Channel
@@ -111,7 +111,7 @@ fn general_index(red: u16, green: u16, blue: u16) -> u64
 {
     let luminance = code_luminance(red, green, blue);
     let Luminance::Lit(stored) = luminance else {
-        return UNLIT;
+        return UNLIT_INDEX;
     };
     128 * (stored.exponent as u64 - 66) + (stored.mantissa as u64 - 128)
 }
@@ -122,7 +122,7 @@ pub fn luminance_index(reds: &[u64; 48], blues: &[u64; 48], red: u16, green: u16
     ensures { λ r. ⌜ r ≡ indexOf (luminanceOf (codePixel red green blue)) ⌝ }
 {
     if red as u32 + green as u32 + blue as u32 == 0 {
-        return UNLIT;
+        return UNLIT_INDEX;
     }
     let green_exponent = (green / 256) as u64;
     let r = place_of((red / 256) as u64, green_exponent);

@@ -2,7 +2,7 @@
 // compiler can work out several at a time.
 ghost use mathlib.Core.Path.{_≡_};
 ghost use Prim.Native.Nat.{_+_, _*_, _/_, _%_, _^_, _≤_, _<_};
-ghost use Rattle.luminance.specs.Codes.{IsNear, octaveIndex};
+ghost use Rattle.luminance.specs.loops.Codes.{IsNear, octaveIndex};
 use number::order::lesser;
 
 // The power of two of the last three binary digits of i.

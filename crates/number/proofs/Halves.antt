@@ -9,7 +9,8 @@ use lib.Pow.{pow-mono}
 use Rattle.number.specs.Fractions.{_over_, AtMost, twoTo}
 use Rattle.number.specs.Storing.{Scales}
 use Rattle.number.specs.Channels.{brightPower, channelOf, channelIn, codeOf}
-use Rattle.number.specs.Sources.{channelOfValue, fieldValue, halfValue, halfCode, magnitude}
+use Rattle.number.specs.Sources.{channelOfValue, fieldValue, halfValue, magnitude}
+use Rattle.number.specs.loops.Halves.{halfCode}
 use Rattle.number.specs.declared.channel.Channel.the-variants.{Black, Lit}
 use Rattle.number.specs.declared.channel.Decoded.the-variants.{Holds}
 use Rattle.number.proofs.Scaling.{rescale, whole-powers-into}

@@ -3,3 +3,4 @@ pub mod Fractions
 pub mod Storing
 pub mod Channels
 pub mod Sources
+pub mod loops

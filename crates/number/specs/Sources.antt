@@ -1,10 +1,10 @@
 -- What the numbers of a source picture are worth, and the channels that they become. Assumes nothing.
 use mathlib.Core.Bool.{cond}
-use Prim.Native.Nat.{ℕ, zero, suc, _+_, _-_, _*_, _/_, _%_, _^_, _≤_}
+use Prim.Native.Nat.{ℕ, zero, suc, _+_, _-_, _*_, _/_, _%_, _^_}
 use lib.Dec.{eqb}
 use Rattle.number.specs.Fractions.{Frac, _over_}
 use Rattle.number.specs.Storing.{unit, worth}
-use Rattle.number.specs.Channels.{channelOf, channelIn, codeOf}
+use Rattle.number.specs.Channels.{channelOf}
 use Rattle.number.specs.declared.channel.Channel.the-variants.{Black}
 use Rattle.number.specs.declared.channel.Decoded.{Decoded}
 use Rattle.number.specs.declared.channel.Decoded.the-variants.{Holds, Refuses}
@@ -41,14 +41,6 @@ floatValue w p b = fieldValue (2 ^ p) (2 ^ w - 1) (2 ^ (w - 1) + p - 2) (b / 2 ^
 -- "Half, three 16-bit numbers a pixel"
 abbrev pub halfValue : ℕ → Value
 halfValue b = floatValue 5 10 b
-
--- the 16-bit form of its channel; 0 where it is refused
-abbrev pub halfCode : (b : ℕ) → ℕ
-halfCode b = codeOf (channelIn (channelOfValue (halfValue b)))
-
--- 0, or any half from 1024 on: no positive subnormal number
-abbrev pub NotSubnormal : (b : ℕ) → Type 0
-NotSubnormal b = 1023 ≤ (b + 65535) % 65536
 
 -- "single, three 32-bit numbers"
 abbrev pub singleValue : ℕ → Value

@@ -1,7 +1,8 @@
 // The numbers of a source picture as channels: IEEE halves and singles, and RGBE bytes. Any bits are taken.
 ghost use mathlib.Core.Path.{_≡_};
 ghost use Prim.Native.Nat.{_+_, _^_, _<_};
-ghost use Rattle.number.specs.Sources.{channelOfValue, fieldValue, halfValue, singleValue, rgbeValue, NotSubnormal, halfCode};
+ghost use Rattle.number.specs.Sources.{channelOfValue, fieldValue, halfValue, singleValue, rgbeValue};
+ghost use Rattle.number.specs.loops.Halves.{NotSubnormal, halfCode};
 use crate::channel::Channel;
 use crate::channel::Decoded;
 use crate::channel::decoded_code;

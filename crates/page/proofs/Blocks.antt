@@ -10,7 +10,8 @@ use Rattle.number.specs.declared.channel.Pixel.{Pixel}
 use Rattle.number.specs.declared.ratio.Stored.{Stored}
 use Rattle.refusal.proofs.Outputs.{sets-append, sets-behind}
 use Rattle.word.specs.Pixels.{wordPixels}
-use Rattle.word.proofs.Pixels.{length-word-pixels, pixelAt, pixel-at}
+use Rattle.word.proofs.Pixels.{length-word-pixels, pixel-at}
+use Rattle.word.specs.loops.Walks.{pixelAt}
 use Rattle.page.specs.declared.levels.Levels.{Levels}
 use Rattle.page.specs.declared.levels.WideLevels.{WideLevels}
 use Rattle.page.specs.Mapping.{levelBytes, levelsOf}

@@ -14,10 +14,10 @@ use Rattle.number.specs.declared.channel.Pixel.{Pixel}
 use Rattle.number.specs.declared.ratio.Stored.{Stored}
 use Rattle.luminance.specs.declared.pixel.Luminance.{Luminance}
 use Rattle.luminance.specs.declared.pixel.Luminance.the-variants.{Unlit, Lit}
-use Rattle.luminance.specs.Codes.{indexOf, indexCount, storedAt}
+use Rattle.luminance.specs.loops.Codes.{indexOf, indexCount, storedAt}
 use Rattle.luminance.specs.Pixels.{IsPixel, luminanceOf, IsLuminance}
 use Rattle.average.specs.Averages.{IsStoredAverage}
-use Rattle.tone.specs.Factors.{factorOf}
+use Rattle.tone.specs.loops.Factors.{factorOf}
 use Rattle.tone.specs.Levels.{IsKey, reinhard, scaledOf, displayOf}
 use Rattle.page.specs.declared.levels.WideLevels.{WideLevels}
 use Rattle.page.specs.Mapping.{levelsFrom, levelsOf}

@@ -14,11 +14,12 @@ use Rattle.word.specs.Fields.{low16, decodeWord}
 use Rattle.word.specs.Placing.{placed, firstRefusal}
 use Rattle.word.specs.Pixels.{wordPixels, wordChannel}
 use Rattle.word.proofs.Decoding.{holds, is-word}
-use Rattle.word.proofs.Pixels.{word-channel, length-word-pixels, pixelAt, pixel-at}
+use Rattle.word.proofs.Pixels.{word-channel, length-word-pixels, pixel-at}
+use Rattle.word.specs.loops.Walks.{pixelAt}
 use Rattle.refusal.specs.Output.{onto}
 use Rattle.luminance.specs.declared.pixel.Luminance.{Luminance}
 use Rattle.luminance.specs.declared.pixel.Luminance.the-variants.{Unlit, Lit}
-use Rattle.luminance.specs.Codes.{indexOf, indexCount}
+use Rattle.luminance.specs.loops.Codes.{indexOf, indexCount}
 use Rattle.luminance.specs.Pixels.{IsPixel, luminanceOf}
 use Rattle.luminance.proofs.Laws.{luminance-range, index-stored, index-range}
 use Rattle.page.specs.declared.levels.Levels.{Levels}

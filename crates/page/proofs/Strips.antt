@@ -21,7 +21,8 @@ use Rattle.strip.proofs.RoundTrip.{count-pixels}
 use Rattle.average.specs.declared.average.Average.{Average}
 use Rattle.average.specs.declared.average.Average.the-variants.{Absent, Present}
 use Rattle.average.specs.declared.tally.Tally.{Tally}
-use Rattle.average.specs.Averages.{averageOf, IsSum, HasAverage}
+use Rattle.average.specs.Averages.{averageOf}
+use Rattle.average.specs.loops.Sums.{IsSum, HasAverage}
 use Rattle.tone.specs.Levels.{IsKey}
 use Rattle.luminance.specs.Pixels.{IsPixel}
 use Rattle.average.specs.Tallies.{sumOf, tallyOf}

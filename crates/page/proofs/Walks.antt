@@ -8,9 +8,10 @@ use lib.Seq.{take-all, sets}
 use Rattle.number.specs.declared.channel.Pixel.{Pixel}
 use Rattle.number.proofs.Laws.{every-take}
 use Rattle.word.specs.Pixels.{wordPixels}
-use Rattle.word.proofs.Pixels.{length-word-pixels, pixelAt, take-pixel, drop-pixel}
+use Rattle.word.proofs.Pixels.{length-word-pixels, take-pixel, drop-pixel}
+use Rattle.word.specs.loops.Walks.{pixelAt}
 use Rattle.average.specs.declared.tally.Tally.{Tally}
-use Rattle.average.specs.Averages.{IsSum}
+use Rattle.average.specs.loops.Sums.{IsSum}
 use Rattle.luminance.specs.Pixels.{IsPixel, luminanceOf}
 use Rattle.average.specs.Tallies.{tallyOf}
 use Rattle.average.proofs.Laws.{tally-is-sum}

@@ -4,7 +4,7 @@ use mathlib.Core.Path.{_≡_}
 use mathlib.Core.List.{List}
 use lib.ListN.{getD}
 use Rattle.word.specs.Fields.{low16}
-use Rattle.luminance.specs.Codes.{IsNear}
+use Rattle.luminance.specs.loops.Codes.{IsNear}
 
 -- the lower halves of every third word from `start` on
 pub record TakenCodes (ws : List ℕ) (start : ℕ) (codes : List ℕ) : Type 0 where

@@ -6,9 +6,9 @@ use lib.ListN.{length, take, drop}
 use Rattle.number.specs.declared.ratio.Stored.{Stored}
 use Rattle.word.specs.Pixels.{wordPixels}
 use Rattle.average.specs.Averages.{IsStoredAverage}
-use Rattle.tone.specs.Factors.{IsPowerTable, IsReciprocalTable}
+use Rattle.tone.specs.loops.Factors.{IsPowerTable, IsReciprocalTable}
 use Rattle.tone.specs.Levels.{IsKey}
-use Rattle.tone.specs.ScaledTables.{IsScaledTable}
+use Rattle.tone.specs.loops.ScaledTables.{IsScaledTable}
 use Rattle.page.specs.Indices.{AreCodes, HoldsIndices}
 use Rattle.page.specs.Mapping.{levelsUnder}
 

@@ -9,8 +9,8 @@ use lib.ListN.{length, getD}
 use Rattle.number.proofs.Laws.{IsMantissa}
 use Rattle.number.specs.declared.channel.Pixel.{Pixel}
 use Rattle.number.specs.declared.ratio.Stored.{Stored}
-use Rattle.luminance.specs.Codes.{indexCount, storedAt}
-use Rattle.tone.specs.Factors.{factorOf}
+use Rattle.luminance.specs.loops.Codes.{indexCount, storedAt}
+use Rattle.tone.specs.loops.Factors.{factorOf}
 use Rattle.tone.specs.Levels.{reinhard, scaledOf, displayOf, levelOf}
 use Rattle.page.specs.declared.levels.Levels.{Levels}
 use Rattle.page.specs.declared.levels.WideLevels.{WideLevels}

@@ -9,8 +9,8 @@ use lib.ListN.{length, getD}
 use Rattle.number.specs.Channels.{IsCode}
 use Rattle.number.specs.declared.channel.Pixel.{Pixel}
 use Rattle.word.specs.Fields.{low16}
-use Rattle.word.proofs.Pixels.{pixelAt}
-use Rattle.luminance.specs.Codes.{indexOf, indexCount, storedAt}
+use Rattle.word.specs.loops.Walks.{pixelAt}
+use Rattle.luminance.specs.loops.Codes.{indexOf, indexCount, storedAt}
 use Rattle.luminance.specs.Pixels.{luminanceOf, IsLuminance}
 use Rattle.luminance.specs.declared.pixel.Luminance.{Luminance}
 use Rattle.luminance.specs.declared.pixel.Luminance.the-variants.{Unlit, Lit}

@@ -14,7 +14,8 @@ use Rattle.luminance.specs.declared.pixel.Luminance.the-variants.{Unlit, Lit}
 use Rattle.average.specs.declared.tally.Tally.{Tally}
 use Rattle.average.specs.Averages.{averageOf}
 use Rattle.luminance.specs.Pixels.{luminanceOf}
-use Rattle.average.specs.Tallies.{tallyOf, withLuminance}
+use Rattle.average.specs.Tallies.{tallyOf}
+use Rattle.average.specs.loops.Sums.{withLuminance}
 use Rattle.page.specs.declared.tally.TallyOrRefusal.{TallyOrRefusal}
 use Rattle.page.specs.declared.tally.TallyOrRefusal.the-variants.{Holds, Refuses}
 

@@ -16,7 +16,8 @@ use Rattle.word.specs.declared.header.Header.{Header}
 use Rattle.word.specs.Words.{pixels, bodyStart}
 use Rattle.word.specs.Pixels.{wordPixels}
 use Rattle.word.proofs.Limits.{behind-head}
-use Rattle.word.proofs.Pixels.{length-word-pixels, pixelAt, drop-pixel}
+use Rattle.word.proofs.Pixels.{length-word-pixels, drop-pixel}
+use Rattle.word.specs.loops.Walks.{pixelAt}
 use Rattle.strip.specs.Checks.{headerFields, bodyPart, checkStrip}
 use Rattle.strip.specs.Reading.{stripPixels}
 use Rattle.strip.proofs.Limits.{Whole, whole-strip}

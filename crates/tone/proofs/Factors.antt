@@ -23,7 +23,7 @@ use Rattle.number.proofs.Laws.{_over_, IsMantissa, IsLit, Coded, IsCode, codeCh
 use Rattle.number.specs.declared.channel.Channel.{Channel}
 use Rattle.number.specs.declared.channel.Channel.the-variants.{Black, Lit}
 use Rattle.number.specs.declared.ratio.Stored.{Stored}
-use Rattle.tone.specs.Factors.{reciprocalOf, offsetOf, factorOf, powerAt}
+use Rattle.tone.specs.loops.Factors.{reciprocalOf, offsetOf, factorOf, powerAt}
 use Rattle.tone.specs.Levels.{levelOf, nearestWhole}
 use Rattle.tone.proofs.LevelSteps.{apart, black-level, full-level, dark-level, lowered, lit-level}
 use Rattle.tone.proofs.Powers.{power-below, power-within, power-beyond}

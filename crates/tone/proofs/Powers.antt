@@ -6,7 +6,7 @@ use native.Mathlib.Nat.{min-eq-left, min-eq-right}
 use native.Mathlib.Omega.{arith}
 use lib.Pow.{pow-add, pow-mono}
 use borrow.Author.Tests.{lt-ltb, le-ltb}
-use Rattle.tone.specs.Factors.{powerAt}
+use Rattle.tone.specs.loops.Factors.{powerAt}
 
 pub power-below : (i : ℕ) → i < 374 → powerAt i ≡ 0
 unfolding powerAt

@@ -7,7 +7,7 @@ use Rattle.number.specs.declared.ratio.Stored.{Stored}
 use Rattle.average.specs.Averages.{IsStoredAverage}
 use Rattle.luminance.specs.Pixels.{IsLuminance}
 use Rattle.tone.specs.Levels.{IsKey, keyOverAverage, scaledOf}
-use Rattle.tone.specs.ScaledTables.{withExponent128, scaledCode}
+use Rattle.tone.specs.loops.ScaledTables.{withExponent128, scaledCode}
 use Rattle.tone.proofs.Scaled.{scaled-stores, is-scaled}
 
 -- two numbers of one denominator, whose factors 2^k and 2^l make them equal, are stored alike but for the exponents

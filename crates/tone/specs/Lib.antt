@@ -1,4 +1,3 @@
 pub mod Levels
 pub mod Claims
-pub mod Factors
-pub mod ScaledTables
+pub mod loops

@@ -4,7 +4,7 @@ ghost use Prim.Native.Nat.{_+_, _*_, _%_, _^_, _≤_, _<_, min};
 ghost use Rattle.number.proofs.Laws.{IsMantissa, IsCode, codeChannel};
 ghost use Rattle.number.specs.declared.ratio.Stored.{Stored};
 ghost use Rattle.tone.specs.Levels.{levelOf};
-ghost use Rattle.tone.specs.Factors.{reciprocalOf, offsetOf, factorOf, powerAt, IsPowerTable, IsReciprocalTable};
+ghost use Rattle.tone.specs.loops.Factors.{reciprocalOf, offsetOf, factorOf, powerAt, IsPowerTable, IsReciprocalTable};
 use number::ratio::Stored;
 
 // 2^40. A factor is its offset times this, plus its scale.

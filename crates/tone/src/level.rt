@@ -4,7 +4,7 @@ ghost use Prim.Native.Nat.{_*_, _^_, _≤_, _<_};
 ghost use Rattle.number.proofs.Laws.{_over_, IsMantissa, unit, storedOf};
 ghost use Rattle.average.specs.Averages.{IsStoredAverage};
 ghost use Rattle.tone.specs.Levels.{IsKey, scaledOf, IsScaled, reinhard, displayOf};
-ghost use Rattle.tone.specs.ScaledTables.{scaledCode, IsScaledTable};
+ghost use Rattle.tone.specs.loops.ScaledTables.{scaledCode, IsScaledTable};
 ghost use Rattle.luminance.specs.Pixels.{IsLuminance};
 use luminance::ratio::stored_ratio;
 use number::ratio::Stored;

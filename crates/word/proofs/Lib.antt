@@ -2,4 +2,4 @@ pub mod Limits
 pub mod Decoding
 pub mod Walks
 pub mod Pixels
-pub mod Blocks
+pub mod BlockKinds

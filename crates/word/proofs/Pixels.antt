@@ -15,6 +15,7 @@ use Rattle.number.specs.Channels.{channelOfCode, channelIn}
 use Rattle.number.proofs.Laws.{IsChannel, channel-code, code-channel}
 use Rattle.word.specs.Fields.{low16, decodeWord}
 use Rattle.word.specs.Pixels.{pixelOf, pixelsOf, wordChannel, wordPixels}
+use Rattle.word.specs.loops.Walks.{pixelAt}
 use Rattle.word.proofs.Decoding.{is-word}
 
 -- ---- channels by threes
@@ -65,10 +66,6 @@ channel-at ws i = ap (λ c. getD (map wordChannel ws) i c) (sym black) ∙ List�
 
 pub length-word-pixels : (ws : List ℕ) → length (wordPixels ws) ≡ length ws / 3
 length-word-pixels ws = length-pixels (map wordChannel ws) ∙ ap (λ n. n / 3) (length-map ws wordChannel)
-
-abbrev pub pixelAt : List ℕ → (p : ℕ) → Pixel
-pixelAt ws p =
-    pixelOf (wordChannel (getD ws (3 * p) 0)) (wordChannel (getD ws (3 * p + 1) 0)) (wordChannel (getD ws (3 * p + 2) 0))
 
 module _ (ws : List ℕ) (p : ℕ) (inside : p < length ws / 3) where
   there : p < length (wordPixels ws)

@@ -18,6 +18,7 @@ use Rattle.refusal.proofs.Outputs.{sets-front}
 use Rattle.number.specs.Channels.{codeOf, channelIn}
 use Rattle.word.specs.Words.{channelWord, bodyWords}
 use Rattle.word.specs.Placing.{Placed, placed, verdictAt, firstRefusal, channelsOf}
+use Rattle.word.specs.loops.Walks.{writing}
 
 -- ---- A loop that checks: at each turn the verdict on the elements that are left, from number i on, is that on all.
 
@@ -89,9 +90,6 @@ words-whole ps t long =
     sets-front ws t (omega arith) ∙ rw (drop-of-length-le t {i = length ws} (omega arith), append-nil)
 
 -- ---- the words of the elements from number i on
-
-unfoldable pub writing : (f : ℕ → ℕ → Decoded) → List ℕ → (i : ℕ) → List ℕ → List ℕ
-writing f xs i t = sets t i (bodyWords i (channelsOf (placed f 0 i (drop i xs))))
 
 pub writing-all : (f : ℕ → ℕ → Decoded) (xs t : List ℕ) → length t ≡ length xs → writing f xs 0 t ≡ bodyWords 0 (channelsOf (placed f 0 0 xs))
 unfolding writing

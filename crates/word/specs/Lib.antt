@@ -2,4 +2,4 @@ pub mod Words
 pub mod Fields
 pub mod Placing
 pub mod Pixels
-pub mod Kinds
+pub mod loops

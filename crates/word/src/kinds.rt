@@ -1,9 +1,9 @@
 // The kinds of channel words in blocks of 48, which are 16 pixels.
-ghost use Rattle.word.specs.Kinds.{IsKinds};
+ghost use Rattle.word.specs.loops.Kinds.{IsKinds};
 use crate::body::channel_word;
 
 // The number of channel words in a block.
-pub const BLOCK: usize = 48;
+pub const BLOCK_WORDS: usize = 48;
 
 // The kinds of a block's words, each the word of a black channel.
 pub fn block_kinds() -> [u32; 48]
@@ -11,7 +11,7 @@ pub fn block_kinds() -> [u32; 48]
 {
     let mut kinds = [0u32; 48];
     let mut j: usize = 0;
-    while j < BLOCK {
+    while j < BLOCK_WORDS {
         kinds[j] = channel_word(j, 0);
         j += 1;
     }

@@ -4,7 +4,7 @@ use borrow.Author.Tests.{not-false}
 use Prim.Native.Nat.{ℕ, _-_, _%_, _≤_}
 use mathlib.Core.Path.{_≡_}
 use native.Mathlib.Omega.{arith}
-use Rattle.channels.specs.Holding.{QuartersHold}
+use Rattle.channels.specs.loops.Holding.{QuartersHold}
 use Rattle.channels.proofs.Held.{held-append, no-quarters, quarters-append, quarters-whole}
 use Rattle.channels.proofs.all_hold.Statement.{statement}
 use Rattle.channels.proofs.all_hold.Tie as tie

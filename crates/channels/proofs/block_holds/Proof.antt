@@ -3,8 +3,8 @@ use borrow.Author.Needs.{needs}
 use Prim.Native.Nat.{_+_, _-_, _≤_}
 use mathlib.Core.Path.{_≡_}
 use native.Mathlib.Omega.{arith}
-use Rattle.word.proofs.Blocks.{kind-at}
-use Rattle.channels.specs.Holding.{NoFault, AllHold}
+use Rattle.word.proofs.BlockKinds.{kind-at}
+use Rattle.channels.specs.loops.Holding.{NoFault, AllHold}
 use Rattle.channels.proofs.Held.{none-held, held-next}
 use Rattle.channels.proofs.block_holds.Statement.{statement}
 use Rattle.channels.proofs.block_holds.Tie as tie

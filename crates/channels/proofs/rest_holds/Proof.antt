@@ -6,7 +6,7 @@ use mathlib.Core.Path.{_≡_}
 use native.Mathlib.Nat.{le-refl}
 use native.Mathlib.Omega.{arith}
 use lib.ListN.{length}
-use Rattle.channels.specs.Holding.{AllHold}
+use Rattle.channels.specs.loops.Holding.{AllHold}
 use Rattle.channels.proofs.Held.{none-held, held-next, held-less}
 use Rattle.channels.proofs.rest_holds.Statement.{statement}
 use Rattle.channels.proofs.rest_holds.Tie as tie

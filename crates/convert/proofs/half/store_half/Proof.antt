@@ -5,15 +5,16 @@ use native.Mathlib.Nat.{le-refl}
 use mathlib.Core.Path.{_≡_, refl, _∙_}
 use native.Mathlib.Omega.{arith}
 use lib.ListN.{length}
-use Rattle.convert.specs.Blocks.{withHalves}
-use Rattle.convert.proofs.Blocks.{halves-all, halves-done}
+use Rattle.word.specs.loops.Walks.{writing}
+use Rattle.convert.specs.Formats.{halfElement}
+use Rattle.word.proofs.Walks.{writing-all, writing-done}
 use Rattle.convert.proofs.half.store_half.Statement.{statement}
 use Rattle.convert.proofs.half.store_half.Tie as tie
 
 abbrev Inv-loop : tie.InvT-loop
 Inv-loop source body₀ kinds start₀ body start =
     (start ≤ length source) × (start % 3 ≡ 0) × (length body ≡ length body₀)
-    × (withHalves source start body ≡ withHalves source 0 body₀)
+    × (writing halfElement source start body ≡ writing halfElement source 0 body₀)
 
 abbrev μ-loop : tie.MeasureT-loop
 μ-loop source body₀ kinds start₀ body start = length source - start
@@ -39,8 +40,8 @@ returns : tie.Need-returns Inv-loop μ-loop
 returns c =
     let s = c .before .before in
     let l = s .before .before .before in
-    let all = halves-all _ _ (l .before .before .before .before .pre) in
-    halves-done _ _ _ (refl, s .store-each .ensures ∙ l .loop .inv .3 ∙ all) (le-refl _)
+    let all = writing-all halfElement _ _ (l .before .before .before .before .pre) in
+    writing-done halfElement _ _ _ (refl, s .store-each .ensures ∙ l .loop .inv .3 ∙ all) (le-refl _)
 
 pub store-half-spec : {M : Type 1} → statement M
 store-half-spec =

@@ -8,7 +8,7 @@ use lib.ListN.{length}
 use Rattle.word.specs.Placing.{firstRefusal}
 use Rattle.word.proofs.Walks.{checking, checking-all, checking-done}
 use Rattle.convert.specs.Formats.{half, halfElement, decodedSource}
-use Rattle.convert.proofs.Blocks.{finite-next}
+use Rattle.convert.proofs.HalfBlocks.{finite-next}
 use Rattle.convert.proofs.half_blocks.all_finite.Statement.{statement}
 use Rattle.convert.proofs.half_blocks.all_finite.Tie as tie
 

@@ -4,7 +4,7 @@ use Prim.Native.Nat.{_+_, _-_}
 use mathlib.Core.Path.{_≡_}
 use native.Mathlib.Omega.{arith}
 use lib.ListN.{getD}
-use Rattle.number.specs.Sources.{halfCode}
+use Rattle.number.specs.loops.Halves.{halfCode}
 use Rattle.number.proofs.Laws.{Filled, filled-none, filled-next}
 use Rattle.convert.proofs.half_blocks.plain_codes.Statement.{statement}
 use Rattle.convert.proofs.half_blocks.plain_codes.Tie as tie

@@ -4,14 +4,15 @@ use Prim.Native.Nat.{_-_, _≤_}
 use mathlib.Core.Path.{_≡_, refl}
 use native.Mathlib.Omega.{arith}
 use lib.ListN.{length}
-use Rattle.convert.specs.Blocks.{withHalves}
-use Rattle.convert.proofs.Blocks.{halves-next}
+use Rattle.word.specs.loops.Walks.{writing}
+use Rattle.convert.specs.Formats.{halfElement}
+use Rattle.word.proofs.Walks.{writing-next}
 use Rattle.convert.proofs.half_blocks.store_each.Statement.{statement}
 use Rattle.convert.proofs.half_blocks.store_each.Tie as tie
 
 abbrev Inv-loop : tie.InvT-loop
 Inv-loop source from end body₀ k₀ body k =
-    (k ≤ end) × (length body ≡ length body₀) × (withHalves source k body ≡ withHalves source from body₀)
+    (k ≤ end) × (length body ≡ length body₀) × (writing halfElement source k body ≡ writing halfElement source from body₀)
 
 abbrev μ-loop : tie.MeasureT-loop
 μ-loop source from end body₀ k₀ body k = end - k
@@ -21,7 +22,7 @@ loop-again c =
     let t = c .before .before .before in
     let l = t .before .loop in
     let word = rw (c .before .half-code .ensures) at (c .channel-word .ensures) in
-    let n = halves-next _ _ (l .body) (l .inv .1, l .inv .2) (omega arith) word in
+    let n = writing-next halfElement _ _ (l .body) (l .inv .1, l .inv .2) (omega arith) refl word in
     (omega arith, n .0, n .1)
 
 returns : tie.Need-returns Inv-loop μ-loop

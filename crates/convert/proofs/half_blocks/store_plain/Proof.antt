@@ -4,15 +4,16 @@ use Prim.Native.Nat.{_+_, _-_, _<_, _≤_}
 use mathlib.Core.Path.{_≡_, refl}
 use native.Mathlib.Omega.{arith}
 use lib.ListN.{length, getD}
-use Rattle.word.proofs.Blocks.{kind-at}
-use Rattle.convert.specs.Blocks.{withHalves}
-use Rattle.convert.proofs.Blocks.{half-code-small, block-next}
+use Rattle.word.proofs.BlockKinds.{kind-at}
+use Rattle.word.specs.loops.Walks.{writing}
+use Rattle.convert.specs.Formats.{halfElement}
+use Rattle.convert.proofs.HalfBlocks.{half-code-small, block-next}
 use Rattle.convert.proofs.half_blocks.store_plain.Statement.{statement}
 use Rattle.convert.proofs.half_blocks.store_plain.Tie as tie
 
 abbrev Inv-loop : tie.InvT-loop
 Inv-loop kinds source start body₀ codes j₀ body j =
-    (j ≤ 48) × (length body ≡ length body₀) × (withHalves source (start + j) body ≡ withHalves source start body₀)
+    (j ≤ 48) × (length body ≡ length body₀) × (writing halfElement source (start + j) body ≡ writing halfElement source start body₀)
 
 abbrev μ-loop : tie.MeasureT-loop
 μ-loop kinds source start body₀ codes j₀ body j = 48 - j

@@ -7,7 +7,7 @@ use native.Mathlib.Omega.{arith}
 use borrow.Author.Needs.{needs}
 use lib.Count.{leadingZeros, leading-top}
 use lib.Pow.{pow-add, pow-mono, pow-pos}
-use Rattle.luminance.specs.Codes.{IsCut}
+use Rattle.luminance.specs.loops.Codes.{IsCut}
 use Rattle.luminance.proofs.index.cut.Statement.{statement}
 use Rattle.luminance.proofs.index.cut.Tie as tie
 

@@ -3,7 +3,7 @@ use mathlib.Core.Path.{sym, _∙_}
 use native.Mathlib.Omega.{arith}
 use borrow.Author.Needs.{needs}
 use Rattle.luminance.specs.Pixels.{IsLuminance}
-use Rattle.luminance.specs.Codes.{codePixel}
+use Rattle.luminance.specs.loops.Codes.{codePixel}
 use Rattle.luminance.proofs.Luminances.{luminance-range}
 use Rattle.luminance.proofs.index.general_index.Statement.{statement}
 use Rattle.luminance.proofs.index.general_index.Tie as tie

@@ -1,7 +1,7 @@
 -- `page::body_levels::factor_at` meets its contract. Assumes nothing.
 use borrow.Author.Needs.{needs}
 use mathlib.Core.Path.{_≡_, sym, _∙_}
-use Rattle.luminance.specs.Codes.{storedAt}
+use Rattle.luminance.specs.loops.Codes.{storedAt}
 use Rattle.luminance.specs.Pixels.{IsLuminance}
 use Rattle.tone.proofs.Laws.{display-mantissa}
 use Rattle.page.proofs.Factors.{is-luminance, factor-lit, kept, not-unlit, with-entry}

@@ -4,7 +4,7 @@ use Prim.Native.Nat.{_+_, _-_, _*_, _≤_}
 use mathlib.Core.Path.{_≡_, ap, _∙_}
 use native.Mathlib.Omega.{arith}
 use lib.ListN.{length, length-set}
-use Rattle.word.proofs.Pixels.{pixelAt}
+use Rattle.word.specs.loops.Walks.{pixelAt}
 use Rattle.page.specs.Blocks.{blockLevels, limitedFront}
 use Rattle.page.specs.FactorTables.{factorUnder, IsFactorTable}
 use Rattle.page.specs.Indices.{pixelIndex}

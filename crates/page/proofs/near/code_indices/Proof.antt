@@ -4,7 +4,7 @@ use Prim.Native.Nat.{_-_}
 use native.Mathlib.Omega.{arith}
 use lib.ListN.{getD}
 use Rattle.number.proofs.Laws.{Filled, filled-none, filled-next}
-use Rattle.luminance.specs.Codes.{IsNear}
+use Rattle.luminance.specs.loops.Codes.{IsNear}
 use Rattle.page.proofs.near.code_indices.Statement.{statement}
 use Rattle.page.proofs.near.code_indices.Tie as tie
 

@@ -5,7 +5,7 @@ use native.Mathlib.Nat.{add-sub-of-le}
 use native.Mathlib.Omega.{arith}
 use lib.ListN.{getD}
 use borrow.Author.Needs.{needs}
-use Rattle.tone.specs.Factors.{reciprocalOf, factorOf}
+use Rattle.tone.specs.loops.Factors.{reciprocalOf, factorOf}
 use Rattle.tone.proofs.Factors.{factor-most}
 use Rattle.tone.proofs.factor.factor.Statement.{statement}
 use Rattle.tone.proofs.factor.factor.Tie as tie

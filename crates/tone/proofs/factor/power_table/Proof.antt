@@ -5,7 +5,7 @@ use Prim.Native.Nat.{_-_, _≤_}
 use native.Mathlib.Omega.{arith}
 use lib.ListN.{getD-replicate}
 use Rattle.number.proofs.Laws.{Filled, filled-next}
-use Rattle.tone.specs.Factors.{powerAt}
+use Rattle.tone.specs.loops.Factors.{powerAt}
 use Rattle.tone.proofs.Powers.{power-below}
 use Rattle.tone.proofs.factor.power_table.Statement.{statement}
 use Rattle.tone.proofs.factor.power_table.Tie as tie

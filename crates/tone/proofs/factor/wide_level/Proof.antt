@@ -5,7 +5,7 @@ use native.Mathlib.Nat.{mul-le-mul}
 use native.Mathlib.Omega.{arith}
 use lib.ListN.{getD}
 use borrow.Author.Needs.{needs}
-use Rattle.tone.specs.Factors.{powerAt}
+use Rattle.tone.specs.loops.Factors.{powerAt}
 use Rattle.tone.proofs.Factors.{levelBy, level-by-factor}
 use Rattle.tone.proofs.Powers.{power-most}
 use Rattle.tone.proofs.factor.wide_level.Statement.{statement}

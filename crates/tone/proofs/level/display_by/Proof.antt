@@ -6,7 +6,7 @@ use native.Mathlib.Omega.{arith}
 use lib.ListN.{getD}
 use borrow.Author.Needs.{needs}
 use Rattle.tone.specs.Levels.{scaledOf, IsScaled, reinhard, displayOf}
-use Rattle.tone.specs.ScaledTables.{scaledCode}
+use Rattle.tone.specs.loops.ScaledTables.{scaledCode}
 use Rattle.tone.proofs.Scaled.{is-scaled}
 use Rattle.tone.proofs.ScaledTables.{Moved, scaled-moved}
 use Rattle.tone.proofs.level.display_by.Statement.{statement}

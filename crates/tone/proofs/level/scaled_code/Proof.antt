@@ -3,7 +3,7 @@ use mathlib.Core.Path.{ap}
 use Prim.Native.Nat.{_+_, _*_}
 use borrow.Author.Needs.{needs}
 use Rattle.number.specs.declared.ratio.Stored.{Stored}
-use Rattle.tone.specs.ScaledTables.{scaledCode}
+use Rattle.tone.specs.loops.ScaledTables.{scaledCode}
 use Rattle.tone.proofs.level.scaled_code.Statement.{statement}
 use Rattle.tone.proofs.level.scaled_code.Tie as tie
 

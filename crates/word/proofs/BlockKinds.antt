@@ -6,7 +6,7 @@ use native.Mathlib.Nat.{mul-add-mod-self-left}
 use native.Mathlib.Omega.{arith}
 use lib.ListN.{getD}
 use Rattle.word.specs.Words.{channelWord}
-use Rattle.word.specs.Kinds.{IsKinds}
+use Rattle.word.specs.loops.Kinds.{IsKinds}
 
 -- a block begins with a red channel, so that the kinds of its channels are those of the first block
 pub kind-at : (kinds : List ℕ) (start j : ℕ) → IsKinds kinds → start % 3 ≡ 0 → j < 48 → getD kinds j 0 ≡ channelWord (start + j) 0

@@ -7,15 +7,15 @@ use lib.ListN.{length, getD, set}
 use Rattle.number.specs.declared.channel.Decoded.{Decoded}
 use Rattle.number.specs.declared.channel.Decoded.the-variants.{Holds, Refuses}
 use Rattle.number.specs.Channels.{codeOf, channelIn}
-use Rattle.number.specs.Sources.{channelOfValue, halfValue, halfCode}
+use Rattle.number.specs.Sources.{channelOfValue, halfValue}
+use Rattle.number.specs.loops.Halves.{halfCode}
 use Rattle.number.proofs.Laws.{half-valid, half-finite}
 use Rattle.refusal.specs.declared.Verdict.{Verdict}
-use Rattle.word.specs.Words.{channelWord, bodyWords}
-use Rattle.word.specs.Placing.{channelsOf}
+use Rattle.word.specs.Words.{channelWord}
 use Rattle.word.proofs.Decoding.{code-small}
-use Rattle.word.proofs.Walks.{checking, checking-next, writing, writing-all, writing-next, writing-done}
-use Rattle.convert.specs.Formats.{half, halfElement, decodedSource}
-use Rattle.convert.specs.Blocks.{withHalves}
+use Rattle.word.proofs.Walks.{checking, checking-next, writing-next}
+use Rattle.word.specs.loops.Walks.{writing}
+use Rattle.convert.specs.Formats.{halfElement}
 
 -- ---- a loop that checks: `most` is at least the magnitude of each half so far
 
@@ -24,21 +24,7 @@ pub finite-next : (xs : List ℕ) (k most next : ℕ) {all : Verdict} → (most 
 finite-next xs k most next inv inside h small =
     checking-next _ _ xs k (inv (omega arith)) inside refl (half-finite (getD xs k 0) (omega arith))
 
--- ---- a loop that stores: at each turn the body, once all that are left are stored too, is the one that is meant
-
-pub halves-all : (xs t : List ℕ) → length t ≡ length xs → withHalves xs 0 t ≡ bodyWords 0 (channelsOf (decodedSource half xs))
-unfolding withHalves writing
-halves-all xs t long = writing-all halfElement xs t long
-
-module _ (xs : List ℕ) (i : ℕ) (t : List ℕ) {n : ℕ} {u : List ℕ} (inv : (length t ≡ n) × (withHalves xs i t ≡ u)) where
-  pub halves-next : {w : ℕ} → i < length xs → w ≡ channelWord i (halfCode (getD xs i 0))
-      → (length (set t i w) ≡ n) × (withHalves xs (i + 1) (set t i w) ≡ u)
-  unfolding withHalves writing
-  halves-next inside e = writing-next halfElement xs i t inv inside refl e
-
-  pub halves-done : length xs ≤ i → t ≡ u
-  unfolding withHalves writing
-  halves-done h = writing-done halfElement xs i t inv h
+-- ---- a loop that stores a block
 
 -- the 16-bit form of a channel has 16 bits
 pub half-code-small : (b : ℕ) → halfCode b < 65536
@@ -49,10 +35,10 @@ half-code-small b = go (channelOfValue (halfValue b)) refl
     go (Refuses r) e = omega arith
 
 pub block-next : (xs : List ℕ) (start j : ℕ) (t : List ℕ) {n w : ℕ} {u : List ℕ}
-    → (j ≤ 48) × (length t ≡ n) × (withHalves xs (start + j) t ≡ u) → start + 48 ≤ length xs → j < 48
+    → (j ≤ 48) × (length t ≡ n) × (writing halfElement xs (start + j) t ≡ u) → start + 48 ≤ length xs → j < 48
     → w ≡ channelWord (start + j) (halfCode (getD xs (start + j) 0))
-    → let t′ = set t (start + j) w in (j + 1 ≤ 48) × (length t′ ≡ n) × (withHalves xs (start + (j + 1)) t′ ≡ u)
+    → let t′ = set t (start + j) w in (j + 1 ≤ 48) × (length t′ ≡ n) × (writing halfElement xs (start + (j + 1)) t′ ≡ u)
 block-next xs start j t inv within inside e =
-    let q = halves-next xs (start + j) t (inv .1, inv .2) (omega arith) e in
+    let q = writing-next halfElement xs (start + j) t (inv .1, inv .2) (omega arith) refl e in
     let k : start + (j + 1) ≡ start + j + 1 = omega arith in
     (omega arith, q .0, rw k (q .1))

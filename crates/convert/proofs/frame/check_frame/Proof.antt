@@ -1,4 +1,4 @@
--- `convert::frame::check_page` meets its contract: its tests are those of `checkPage`, in the same order. Assumes nothing.
+-- `convert::frame::check_frame` meets its contract: its tests are those of `checkFrame`, in the same order. Assumes nothing.
 use borrow.Author.Needs.{needs}
 use Prim.Native.Nat.{_≤_}
 use mathlib.Core.Path.{_≡_, sym, _∙_}
@@ -9,12 +9,12 @@ use borrow.Author.Tests.{le-leb, lt-leb, eq-eqb, ne-eqb, not-true, not-false}
 use Rattle.refusal.specs.Verdicts.{require}
 use Rattle.word.specs.Words.{sizeFits, keyFits}
 use Rattle.word.proofs.Limits.{size-limits}
-use Rattle.convert.specs.Converting.{checkPage}
-use Rattle.convert.proofs.frame.check_page.Statement.{statement}
-use Rattle.convert.proofs.frame.check_page.Tie as tie
+use Rattle.convert.specs.Converting.{checkFrame}
+use Rattle.convert.proofs.frame.check_frame.Statement.{statement}
+use Rattle.convert.proofs.frame.check_frame.Tie as tie
 
 returns : tie.Need-returns
-unfolding checkPage require
+unfolding checkFrame require
 returns c = simp (sym (c .before .size-fits .ensures), not-true (c .before .size-fits .result) (c .if1 .taken))
 
 -- size and key once they are accepted
@@ -25,7 +25,7 @@ key : (c : tie.Else2) → keyFits (c .before .before .before .before .args .head
 key c = sym (c .before .key-fits .ensures) ∙ not-false (c .before .key-fits .result) (c .if2 .left)
 
 returns-2 : tie.Need-returns-2
-unfolding checkPage require
+unfolding checkFrame require
 returns-2 c =
     simp (size (c .before .before), sym (c .before .key-fits .ensures), not-true (c .before .key-fits .result) (c .if2 .taken))
 
@@ -35,27 +35,27 @@ mul-if3 c =
     omega (arith, mul-le-mul few (size-limits _ _ (size (c .before .before)) .count))
 
 returns-3 : tie.Need-returns-3
-unfolding checkPage require
+unfolding checkFrame require
 returns-3 c =
     let k = c .before in
     simp (size (k .before .before), key k, ne-eqb _ _ (c .if3 .taken))
 
 returns-4 : tie.Need-returns-4
-unfolding checkPage require
+unfolding checkFrame require
 returns-4 c =
     let e = c .before in
     let k = e .before .before in
     simp (size (k .before .before), key k, eq-eqb _ _ (e .before .if3 .left), lt-leb _ _ (rw (e .body-end .ensures) at (c .if4 .taken)))
 
 returns-5 : tie.Need-returns-5
-unfolding checkPage require
+unfolding checkFrame require
 returns-5 c =
     let e = c .before in
     let k = e .before .before in
     simp (size (k .before .before), key k, eq-eqb _ _ (e .before .if3 .left), le-leb _ _ (rw (e .body-end .ensures) at (c .if4 .left)))
 
-pub check-page-spec : {M : Type 1} → statement M
-check-page-spec =
+pub check-frame-spec : {M : Type 1} → statement M
+check-frame-spec =
     tie.close
     (tie.spec
     (λ c κs. search needs) returns (λ c κs. search needs) returns-2

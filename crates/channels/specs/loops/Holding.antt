@@ -5,7 +5,7 @@ use mathlib.Core.List.{List}
 use lib.ListN.{length, getD}
 use Rattle.number.specs.declared.channel.Decoded.the-variants.{Holds}
 use Rattle.word.specs.Fields.{decodeWord}
-use Rattle.word.specs.Kinds.{IsKinds}
+use Rattle.word.specs.loops.Kinds.{IsKinds}
 use Rattle.word.specs.Pixels.{wordChannel}
 use Rattle.word.specs.Words.{channelWord}
 
