@@ -9,7 +9,8 @@ use Rattle.number.specs.declared.channel.Channel.{Channel}
 use Rattle.number.specs.declared.channel.Channel.the-variants.{Black, Lit}
 use Rattle.number.specs.declared.channel.Pixel.{Pixel}
 use Rattle.number.specs.declared.ratio.Stored.{Stored}
-use Rattle.tone.specs.Claims.{WithinHalves, LevelBound, atMost255}
+use Rattle.tone.specs.declared.tone.Tone.{Tone}
+use Rattle.tone.specs.Claims.{WithinHalves, exactValue, atMost255}
 use Rattle.tone.specs.Levels.{keyOverAverage, toLevel, levelOf}
 use Rattle.luminance.specs.Pixels.{exactLuminance}
 use Rattle.tone.proofs.Close.{
@@ -65,17 +66,17 @@ module _ (f : Frac → Frac) (S : NeverStretches f) where
         below = quotients _ (f (k · x)) b x d c w (at-most-times (s .below) (hb .below));
       })
 
-  -- of a pixel with the stored luminance y, scaled luminance l and display luminance d: the luminance is rounded once, the channel not
-  pub pixel-bound : (K : ℕ) (a y l d : Stored) (p : Pixel) (c : Channel)
-      → Near (exactLuminance p) (storedWorth y) → Near (keyOverAverage K a · storedWorth y) (storedWorth l)
-      → Near (f (storedWorth l)) (storedWorth d)
-      → LevelBound f K a p c (levelOf d c y)
+  -- of a pixel with the stored luminance y, scaled luminance l and display luminance d: the luminance is rounded once, the channel not,
+  -- and h halves have room for that
+  pub pixel-bound : {h : ℕ} (t : Tone) (y l d : Stored) (p : Pixel) (c : Channel)
+      → Near (exactLuminance p) (storedWorth y) → Near (keyOverAverage t · storedWorth y) (storedWorth l)
+      → Near (f (storedWorth l)) (storedWorth d) → 511 * 256 ^ 2 < h * 256 ^ 2 + 510 * 255 ^ 2
+      → WithinHalves h (levelOf d c y) (exactValue f t (exactLuminance p) (worthOf c))
   unfolding levelOf
-  pixel-bound K a y l d p c hy hl hd =
-      level-within _ 1 0 (keyOverAverage K a) (exactLuminance p) (storedWorth y) (storedWorth l) (storedWorth d) (worthOf c) (worthOf c)
-      (omega arith)
-      (mul-pos {m = 1000} (omega arith) (mul-pos (omega arith) (pow-pos (a .exponent)))) (near-pos hy .0) (channel-pos c) (channel-pos c)
-      (near-close hy) (near-pos hy .1) (near-close hl) hd unit-pos (close-refl (worthOf c))
+  pixel-bound t y l d p c hy hl hd room =
+      level-within _ 1 0 (keyOverAverage t) (exactLuminance p) (storedWorth y) (storedWorth l) (storedWorth d) (worthOf c) (worthOf c)
+      room (mul-pos {m = 1000} (omega arith) (mul-pos (omega arith) (pow-pos (t .average .exponent)))) (near-pos hy .0)
+      (channel-pos c) (channel-pos c) (near-close hy) (near-pos hy .1) (near-close hl) hd unit-pos (close-refl (worthOf c))
     where
       channel-pos : (c : Channel) → 0 < worthOf c .den
       channel-pos Black = unit-pos

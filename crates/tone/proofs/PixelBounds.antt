@@ -1,11 +1,11 @@
 -- Demand 3, second half, of the steps as they are stored, for L/(1+L). Assumes nothing.
-use Prim.Native.Nat.{ℕ}
+use native.Mathlib.Omega.{arith}
 use Rattle.number.proofs.Laws.{IsMantissa, promised, near}
 use Rattle.number.specs.declared.ratio.Stored.{Stored}
 use Rattle.luminance.specs.Pixels.{IsLuminance}
-use Rattle.average.specs.Averages.{IsStoredAverage}
+use Rattle.tone.specs.declared.tone.Tone.{Tone}
 use Rattle.tone.specs.Claims.{LevelIsBounded}
-use Rattle.tone.specs.Levels.{IsKey, reinhard, scaledOf, displayOf}
+use Rattle.tone.specs.Levels.{IsTone, reinhard, displayUnder}
 use Rattle.tone.proofs.Curves.{reinhard-ratio}
 use Rattle.tone.proofs.Displays.{display-stores}
 use Rattle.tone.proofs.LevelBounds.{pixel-bound}
@@ -13,12 +13,11 @@ use Rattle.luminance.proofs.Luminances.{luminance-range, luminance-stores}
 use Rattle.tone.proofs.Scaled.{is-scaled, scaled-stores}
 
 pub level-bound : LevelIsBounded
-level-bound p valid y e c _ K key a average =
+level-bound p valid y e c _ t tone =
     let range = luminance-range p valid y e in
-    pixel-bound reinhard reinhard-ratio K a y _ _ p c (near (luminance-stores p valid y e))
-    (near (scaled-stores K y a key range average)) (near (display-stores _ (is-scaled K y a key range average)))
+    pixel-bound reinhard reinhard-ratio t y _ _ p c (near (luminance-stores p valid y e))
+    (near (scaled-stores t y tone range)) (near (display-stores _ (is-scaled t y tone range))) (omega arith)
 
 -- the mantissa of a display luminance
-pub display-mantissa : (K : ℕ) (y a : Stored) → IsKey K → IsLuminance y → IsStoredAverage a
-    → IsMantissa (displayOf reinhard (scaledOf K y a) .mantissa)
-display-mantissa K y a key range average = promised (display-stores _ (is-scaled K y a key range average)) .mantissa
+pub display-mantissa : (t : Tone) (y : Stored) → IsTone t → IsLuminance y → IsMantissa (displayUnder t y .mantissa)
+display-mantissa t y tone range = promised (display-stores _ (is-scaled t y tone range)) .mantissa

@@ -4,9 +4,9 @@ use Prim.Native.Nat.{ℕ, _+_, _-_, _*_, _/_, _%_, _^_, _≤_}
 use native.Mathlib.Omega.{arith}
 use Rattle.number.proofs.Laws.{_over_, IsMantissa, Stores, denominator-pos, shift-exponent, stored-as}
 use Rattle.number.specs.declared.ratio.Stored.{Stored}
-use Rattle.average.specs.Averages.{IsStoredAverage}
 use Rattle.luminance.specs.Pixels.{IsLuminance}
-use Rattle.tone.specs.Levels.{IsKey, keyOverAverage, scaledOf}
+use Rattle.tone.specs.declared.tone.Tone.{Tone}
+use Rattle.tone.specs.Levels.{IsTone, keyOverAverage, scaledOf}
 use Rattle.tone.specs.loops.ScaledTables.{withExponent128, scaledCode}
 use Rattle.tone.proofs.Scaled.{scaled-stores, is-scaled}
 
@@ -30,25 +30,25 @@ pub record Moved (code : ℕ) (y scaled : Stored) : Type 0 where
   pub most : code / 256 + y .exponent - 128 ≤ 246
   pub same : record { exponent = code / 256 + y .exponent - 128; mantissa = code % 256 } ≡ scaled
 
-module _ (K : ℕ) (y a : Stored) (key : IsKey K) (luminance : IsLuminance y) (average : IsStoredAverage a) where
+module _ (t : Tone) (y : Stored) (tone : IsTone t) (luminance : IsLuminance y) where
   middle : IsLuminance (withExponent128 (y .mantissa))
   middle = is-luminance-128 _ (luminance .mantissa)
 
-  alike : let s = scaledOf K y a in let t = scaledOf K (withExponent128 (y .mantissa)) a in
-      (s .exponent + 128 ≡ t .exponent + y .exponent) × (s .mantissa ≡ t .mantissa)
+  alike : let s = scaledOf t y in let m = scaledOf t (withExponent128 (y .mantissa)) in
+      (s .exponent + 128 ≡ m .exponent + y .exponent) × (s .mantissa ≡ m .mantissa)
   alike =
-      shifted-alike 128 (y .exponent) (scaled-stores K y a key luminance average)
-      (scaled-stores K (withExponent128 (y .mantissa)) a key middle average)
-      (swap (keyOverAverage K a .num) (2 * y .mantissa + 1) (2 ^ y .exponent) (2 ^ 128))
+      shifted-alike 128 (y .exponent) (scaled-stores t y tone luminance)
+      (scaled-stores t (withExponent128 (y .mantissa)) tone middle)
+      (swap (keyOverAverage t .num) (2 * y .mantissa + 1) (2 ^ y .exponent) (2 ^ 128))
     where
       swap : (n v p q : ℕ) → n * (v * p) * q ≡ n * (v * q) * p
       swap n v p q = omega arith
 
-  pub scaled-moved : Moved (scaledCode K a (y .mantissa)) y (scaledOf K y a)
+  pub scaled-moved : Moved (scaledCode t (y .mantissa)) y (scaledOf t y)
   unfolding scaledCode
   scaled-moved =
-      let s = is-scaled K y a key luminance average in
-      let t = is-scaled K (withExponent128 (y .mantissa)) a key middle average in
+      let s = is-scaled t y tone luminance in
+      let m = is-scaled t (withExponent128 (y .mantissa)) tone middle in
       let h = alike in
       record {
         sum = omega arith;

@@ -9,8 +9,8 @@ use Rattle.number.specs.declared.channel.Pixel.{Pixel}
 use Rattle.number.specs.declared.ratio.Stored.{Stored}
 use Rattle.luminance.specs.Pixels.{IsPixel, exactLuminance, luminanceOf}
 use Rattle.luminance.specs.declared.pixel.Luminance.{Luminance}
-use Rattle.average.specs.Averages.{IsStoredAverage}
-use Rattle.tone.specs.Levels.{IsKey, keyOverAverage, reinhard, mappedLevel}
+use Rattle.tone.specs.declared.tone.Tone.{Tone}
+use Rattle.tone.specs.Levels.{IsTone, keyOverAverage, reinhard, mappedLevel}
 
 -- x, "or 255 where that is greater"
 abbrev pub atMost255 : Frac → Frac
@@ -18,8 +18,8 @@ atMost255 x = min (x .num) (255 * x .den) over x .den
 
 -- "Y is (27R + 67G + 6B)/100, not stored; a is the worth of the page's stored average, step 3; L is K·Y/(1000·a). The exact value of
 -- a channel C, any of the three, is 255 · L/(1+L) · C/Y, or 255 where that is greater; nothing in it is rounded."
-abbrev pub exactValue : (curve : Frac → Frac) (K : ℕ) (average : Stored) (Y C : Frac) → Frac
-exactValue curve K average Y C = atMost255 (255 times curve (keyOverAverage K average · Y) · C ÷ Y)
+abbrev pub exactValue : (curve : Frac → Frac) (t : Tone) (Y C : Frac) → Frac
+exactValue curve t Y C = atMost255 (255 times curve (keyOverAverage t · Y) · C ÷ Y)
 
 -- the level is less than h/2 away from x, above or below
 pub record WithinHalves (h level : ℕ) (x : Frac) : Type 0 where
@@ -27,8 +27,8 @@ pub record WithinHalves (h level : ℕ) (x : Frac) : Type 0 where
   pub low : 2 * x .num < 2 * (level * x .den) + h * x .den
 
 -- "The level byte of that channel is less than 5/2 away from it, above or below."
-abbrev pub LevelBound : (curve : Frac → Frac) (K : ℕ) (average : Stored) (p : Pixel) (c : Channel) (level : ℕ) → Type 0
-LevelBound curve K average p c level = WithinHalves 5 level (exactValue curve K average (exactLuminance p) (worthOf c))
+abbrev pub LevelBound : (t : Tone) (p : Pixel) (c : Channel) (level : ℕ) → Type 0
+LevelBound t p c level = WithinHalves 5 level (exactValue reinhard t (exactLuminance p) (worthOf c))
 
 -- "any of the three"
 infix 50 _ofPixel_
@@ -38,5 +38,4 @@ c ofPixel p = (c ≡ p .red) ⊎ (c ≡ p .green) ⊎ (c ≡ p .blue)
 -- for each channel of every lit pixel, under every key and stored average
 abbrev pub LevelIsBounded : Type 0
 LevelIsBounded = (p : Pixel) → IsPixel p → (y : Stored) → luminanceOf p ≡ Luminance.Lit y → (c : Channel) → c ofPixel p
-    → (K : ℕ) → IsKey K → (average : Stored) → IsStoredAverage average
-    → LevelBound reinhard K average p c (mappedLevel reinhard K average y c)
+    → (t : Tone) → IsTone t → LevelBound t p c (mappedLevel t y c)

@@ -3,19 +3,26 @@ use Prim.Native.Nat.{ℕ, _+_, _*_, _/_, _≤_, min}
 use Rattle.number.proofs.Laws.{Frac, _over_, _·_, _÷_, _times_, IsMantissa, storedWorth, worthOf, storedOf}
 use Rattle.number.specs.declared.channel.Channel.{Channel}
 use Rattle.number.specs.declared.ratio.Stored.{Stored}
+use Rattle.average.specs.Averages.{IsStoredAverage}
+use Rattle.tone.specs.declared.tone.Tone.{Tone}
 
 -- "K is 0 or above 1,000" is refused
 pub record IsKey (K : ℕ) : Type 0 where
   pub least : 1 ≤ K
   pub most : K ≤ 1000
 
+-- a key, and a stored average as step 3 gives it
+pub record IsTone (t : Tone) : Type 0 where
+  pub key : IsKey (t .key)
+  pub average : IsStoredAverage (t .average)
+
 -- K/1000 over the average, decoded
-abbrev pub keyOverAverage : ℕ → Stored → Frac
-keyOverAverage K average = (K over 1000) ÷ storedWorth average
+abbrev pub keyOverAverage : Tone → Frac
+keyOverAverage t = (t .key over 1000) ÷ storedWorth (t .average)
 
 -- "Scaled luminance: K/1000 times luminance over average (both decoded), stored."
-abbrev pub scaledOf : (K : ℕ) (y average : Stored) → Stored
-scaledOf K y average = storedOf (keyOverAverage K average · storedWorth y)
+abbrev pub scaledOf : (t : Tone) (y : Stored) → Stored
+scaledOf t y = storedOf (keyOverAverage t · storedWorth y)
 
 -- "E is 1 to 246."
 pub record IsScaled (l : Stored) : Type 0 where
@@ -31,6 +38,10 @@ reinhard L = L .num over L .den + L .num
 abbrev pub displayOf : (curve : Frac → Frac) → Stored → Stored
 displayOf curve l = storedOf (curve (storedWorth l))
 
+-- steps 4 and 5 of a luminance
+abbrev pub displayUnder : (t : Tone) (y : Stored) → Stored
+displayUnder t y = displayOf reinhard (scaledOf t y)
+
 -- "to the nearest whole number, halves up": x + 1/2 rounded down
 abbrev pub nearestWhole : Frac → ℕ
 nearestWhole x = (2 * x .num + x .den) / (2 * x .den)
@@ -43,6 +54,6 @@ toLevel x = min 255 (nearestWhole (255 times x))
 unfoldable pub levelOf : (display : Stored) (channel : Channel) (luminance : Stored) → ℕ
 levelOf d c y = toLevel (storedWorth d · worthOf c ÷ storedWorth y)
 
--- steps 4 to 6 of a channel c in a pixel of luminance y, under a key and a stored average
-abbrev pub mappedLevel : (curve : Frac → Frac) (K : ℕ) (average y : Stored) (c : Channel) → ℕ
-mappedLevel curve K average y c = levelOf (displayOf curve (scaledOf K y average)) c y
+-- steps 4 to 6 of a channel c in a pixel of luminance y
+abbrev pub mappedLevel : (t : Tone) (y : Stored) (c : Channel) → ℕ
+mappedLevel t y c = levelOf (displayUnder t y) c y

@@ -2,22 +2,22 @@
 ghost use mathlib.Core.Path.{_≡_};
 ghost use Prim.Native.Nat.{_*_, _^_, _≤_, _<_};
 ghost use Rattle.number.proofs.Laws.{_over_, IsMantissa, unit, storedOf};
-ghost use Rattle.average.specs.Averages.{IsStoredAverage};
-ghost use Rattle.tone.specs.Levels.{IsKey, scaledOf, IsScaled, reinhard, displayOf};
+ghost use Rattle.tone.specs.Levels.{IsTone, scaledOf, IsScaled, reinhard, displayOf, displayUnder};
 ghost use Rattle.tone.specs.loops.ScaledTables.{scaledCode, IsScaledTable};
 ghost use Rattle.luminance.specs.Pixels.{IsLuminance};
+use crate::tone::Tone;
 use luminance::ratio::stored_ratio;
 use number::ratio::Stored;
 
 // Step 4: K/1000 times luminance over average.
-fn scaled_luminance(key: u64, luminance: Stored, average: Stored) -> Stored
-    requires { ⌜ IsKey key × IsLuminance luminance × IsStoredAverage average ⌝ }
-    ensures { λ r. ⌜ r ≡ scaledOf key luminance average ⌝ }
+fn scaled_luminance(tone: Tone, luminance: Stored) -> Stored
+    requires { ⌜ IsTone tone × IsLuminance luminance ⌝ }
+    ensures { λ r. ⌜ r ≡ scaledOf tone luminance ⌝ }
 {
     stored_ratio(
-        key * (2 * (luminance.mantissa as u64) + 1),
-        1000 * (2 * (average.mantissa as u64) + 1),
-        137 + luminance.exponent as u16 - average.exponent as u16,
+        tone.key * (2 * (luminance.mantissa as u64) + 1),
+        1000 * (2 * (tone.average.mantissa as u64) + 1),
+        137 + luminance.exponent as u16 - tone.average.exponent as u16,
     )
 }
 
@@ -71,37 +71,37 @@ fn display_luminance(scaled: Stored) -> Stored
 const TABLE_EXPONENT: u8 = 128;
 
 // 256 times the exponent plus the mantissa of the scaled luminance of (128, M).
-fn scaled_code(key: u64, mantissa: u8, average: Stored) -> u16
-    requires { ⌜ IsKey key × IsMantissa mantissa × IsStoredAverage average ⌝ }
-    ensures { λ r. ⌜ r ≡ scaledCode key average mantissa ⌝ }
+fn scaled_code(tone: Tone, mantissa: u8) -> u16
+    requires { ⌜ IsTone tone × IsMantissa mantissa ⌝ }
+    ensures { λ r. ⌜ r ≡ scaledCode tone mantissa ⌝ }
 {
     let luminance = Stored {
         exponent: TABLE_EXPONENT,
         mantissa: mantissa,
     };
-    let scaled = scaled_luminance(key, luminance, average);
+    let scaled = scaled_luminance(tone, luminance);
     256 * (scaled.exponent as u16) + scaled.mantissa as u16
 }
 
 // The codes of the mantissas 128 to 255, at M - 128.
-pub fn scaled_table(key: u64, average: Stored) -> [u16; 128]
-    requires { ⌜ IsKey key × IsStoredAverage average ⌝ }
-    ensures { λ r. ⌜ IsScaledTable key average r ⌝ }
+pub fn scaled_table(tone: Tone) -> [u16; 128]
+    requires { ⌜ IsTone tone ⌝ }
+    ensures { λ r. ⌜ IsScaledTable tone r ⌝ }
 {
     let mut codes = [0; 128];
     let mut k: usize = 0;
     while k < 128 {
-        codes[k] = scaled_code(key, (128 + k) as u8, average);
+        codes[k] = scaled_code(tone, (128 + k) as u8);
         k += 1;
     }
     codes
 }
 
-// Steps 4 and 5: the display luminance of a pixel's luminance under the key and the average of a table. A power of two moves only the
-// exponent of what is stored, so the scaled luminance of (E, M) is that of (128, M) with E - 128 added to its exponent.
-pub fn display_by(codes: &[u16; 128], key: u64, luminance: Stored, average: Stored) -> Stored
-    requires { ⌜ IsScaledTable key average (now codes) × IsKey key × IsLuminance luminance × IsStoredAverage average ⌝ }
-    ensures { λ r. ⌜ r ≡ displayOf reinhard (scaledOf key luminance average) ⌝ }
+// Steps 4 and 5: the display luminance of a pixel's luminance under the tone of a table. A power of two moves only the exponent of what is
+// stored, so the scaled luminance of (E, M) is that of (128, M) with E - 128 added to its exponent.
+pub fn display_by(codes: &[u16; 128], tone: Tone, luminance: Stored) -> Stored
+    requires { ⌜ IsScaledTable tone (now codes) × IsTone tone × IsLuminance luminance ⌝ }
+    ensures { λ r. ⌜ r ≡ displayUnder tone luminance ⌝ }
 {
     let code = codes[(luminance.mantissa - 128) as usize];
     display_luminance(Stored {

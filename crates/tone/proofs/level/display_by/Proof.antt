@@ -17,18 +17,18 @@ module _ (c : tie.Start) where
   abbrev code : ℕ
   code = getD (c .args .codes .now) (c .args .luminance .mantissa - 128) 0
 
-  got : code ≡ scaledCode (c .args .key) (c .args .average) (c .args .luminance .mantissa)
+  got : code ≡ scaledCode (c .args .tone) (c .args .luminance .mantissa)
   got =
       c .pre .0 .entry (c .args .luminance .mantissa - 128) (omega arith)
-      ∙ ap (scaledCode (c .args .key) (c .args .average)) (add-sub-of-le (c .pre .2 .mantissa .least))
+      ∙ ap (scaledCode (c .args .tone)) (add-sub-of-le (c .pre .2 .mantissa .least))
 
-  moved : Moved code (c .args .luminance) (scaledOf (c .args .key) (c .args .luminance) (c .args .average))
-  moved = rw got (scaled-moved _ _ _ (c .pre .1) (c .pre .2) (c .pre .3))
+  moved : Moved code (c .args .luminance) (scaledOf (c .args .tone) (c .args .luminance))
+  moved = rw got (scaled-moved _ _ (c .pre .1) (c .pre .2))
 
 display-luminance-requires : tie.Need-display-luminance-requires
 display-luminance-requires c κs =
     let s = c .before .before .before in
-    subst IsScaled (sym (moved s .same)) (is-scaled _ _ _ (s .pre .1) (s .pre .2) (s .pre .3))
+    subst IsScaled (sym (moved s .same)) (is-scaled _ _ (s .pre .1) (s .pre .2))
 
 returns : tie.Need-returns
 returns c = c .display-luminance .ensures ∙ ap (displayOf reinhard) (moved (c .before .before .before .before) .same)

@@ -8,16 +8,16 @@ use Rattle.tone.proofs.level.scaled_luminance.Tie as tie
 
 mul-stored-ratio-2 : tie.Need-mul-stored-ratio-2
 mul-stored-ratio-2 c =
-    let x = c .before .args in let p = c .before .pre in
-    omega (arith, scaled-num (x .key) (x .luminance) (x .average) (p .0) (p .1) (p .2) .1)
+    let x = c .before .before .args in let p = c .before .before .pre in
+    omega (arith, scaled-num (x .tone) (x .luminance) (p .0) (p .1) .1)
 
 stored-ratio-requires : tie.Need-stored-ratio-requires
 stored-ratio-requires c κs =
-    let p = c .before .before .before .before .pre in scaled-storable _ _ _ (p .0) (p .1) (p .2) .in-range
+    let p = c .before .before .before .before .before .pre in scaled-storable _ _ (p .0) (p .1) .in-range
 
 returns : tie.Need-returns
 returns c =
-    let p = c .before .before .before .before .before .pre in c .stored-ratio .ensures ∙ scaled-stored _ _ _ (p .0) (p .1) (p .2)
+    let p = c .before .before .before .before .before .before .pre in c .stored-ratio .ensures ∙ scaled-stored _ _ (p .0) (p .1)
 
 pub scaled-luminance-spec : {M : Type 1} → statement M
 scaled-luminance-spec =

@@ -8,15 +8,15 @@ use Rattle.tone.proofs.level.scaled_table.Statement.{statement}
 use Rattle.tone.proofs.level.scaled_table.Tie as tie
 
 abbrev Inv-loop : tie.InvT-loop
-Inv-loop key average codes₀ k₀ codes k = (k ≤ 128) × Filled (λ i v. v ≡ scaledCode key average (128 + i)) 128 k codes
+Inv-loop tone codes₀ k₀ codes k = (k ≤ 128) × Filled (λ i v. v ≡ scaledCode tone (128 + i)) 128 k codes
 
 abbrev μ-loop : tie.MeasureT-loop
-μ-loop key average codes₀ k₀ codes k = 128 - k
+μ-loop tone codes₀ k₀ codes k = 128 - k
 
 scaled-code-requires : tie.Need-scaled-code-requires Inv-loop μ-loop
 scaled-code-requires c κs =
     let pre = c .before .before .pre in
-    (pre .0, record { least = omega arith; most = omega arith }, pre .1)
+    (pre, record { least = omega arith; most = omega arith })
 
 loop-again : tie.Need-loop-again Inv-loop μ-loop
 loop-again c = (
