@@ -1,5 +1,6 @@
 -- The worked examples, computed from the definitions. Assumes nothing.
 use mathlib.Core.Path.{refl}
+use mathlib.Core.List.{flatMap}
 use lib.Ieee.{size}
 use Rattle.number.specs.Fractions.{byRange}
 use Rattle.number.specs.Storing.{unit, exponentOf, mantissaOf}
@@ -14,11 +15,14 @@ use Rattle.average.specs.Tables.{greatest, logTest, logOf, rootTest, rootOf}
 use Rattle.average.specs.Averages.{storedAverage, averageOf}
 use Rattle.average.specs.Tallies.{sumOf}
 use Rattle.tone.specs.Levels.{levelOf}
-use Rattle.page.specs.Tallying.{luminancesOf, tallyStrip}
+use Rattle.body.specs.Luminances.{luminancesOf}
+use Rattle.page.specs.Checks.{checkTally, checkMap}
+use Rattle.page.specs.Tallying.{tallyStrip}
 use Rattle.examples.specs.Examples.{TableHolds}
 
 pub table-holds : TableHolds
 unfolding size byRange unit exponentOf mantissaOf channelOf channelOfCode channelOfValue fieldValue rgbeValue
     require andThen sizeFits keyFits checkSizeWord checkKeyWord decodeWord checkHead checkBody checkWith checkStrip checkOutput
-    luminanceOf greatest logTest logOf rootTest rootOf storedAverage averageOf sumOf levelOf luminancesOf tallyStrip
+    luminanceOf greatest logTest logOf rootTest rootOf storedAverage averageOf sumOf levelOf flatMap luminancesOf
+    checkTally checkMap tallyStrip
 table-holds = refl

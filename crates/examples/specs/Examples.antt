@@ -10,7 +10,7 @@ use Rattle.number.specs.declared.channel.Decoded.{Decoded}
 use Rattle.number.specs.Sources.{channelOfValue, halfValue, singleValue, rgbeValue}
 use Rattle.refusal.specs.declared.Refusal.{Refusal}
 use Rattle.refusal.specs.Refusals.{outcomeOf}
-use Rattle.strip.specs.Checks.{channelCount, checkOutput}
+use Rattle.strip.specs.Checks.{channelCount}
 use Rattle.refusal.specs.Output.{after}
 use Rattle.convert.specs.Formats.{Format}
 use Rattle.convert.specs.Converting.{converted}
@@ -18,6 +18,7 @@ use Rattle.average.specs.declared.average.Average.{Average}
 use Rattle.average.specs.declared.average.Average.the-variants.{Present}
 use Rattle.average.specs.Tables.{logOf, rootOf}
 use Rattle.page.specs.declared.tally.TallyOrRefusal.{TallyOrRefusal}
+use Rattle.page.specs.Checks.{checkMap}
 use Rattle.page.specs.Tallying.{tallyStrip}
 use Rattle.page.specs.Mapping.{stripLevels}
 
@@ -51,7 +52,7 @@ channelAnswer (Decoded.Refuses r) = refusedBy r
 
 -- what mapping leaves in an output of zeros that is just long enough
 abbrev pub levelsLeft : (strip : List ℕ) → List ℕ
-levelsLeft s = let n = channelCount s in after (checkOutput s n) (stripLevels s) (replicate n 0)
+levelsLeft s = let n = channelCount s in after (checkMap s n) (stripLevels s) (replicate n 0)
 
 abbrev pub pageAnswer : (strip : List ℕ) → TallyOrRefusal → Answer
 pageAnswer s (TallyOrRefusal.Holds t a) = mapped s a (levelsLeft s)

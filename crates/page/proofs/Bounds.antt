@@ -1,7 +1,7 @@
 -- Demand 3 of a page, and the promises of the two calls. Assumes nothing.
 use Prim.Native.Nat.{ℕ, _<_}
 use mathlib.Core.Path.{_≡_, refl, sym, subst, _∙_}
-use mathlib.Core.List.{List, [], _∷_, _++_}
+use mathlib.Core.List.{List, [], _∷_, _++_, flatMap}
 use mathlib.Core.Logic.{inl, inr}
 use native.Mathlib.Omega.{arith}
 use lib.IntN.{ℤ}
@@ -12,42 +12,47 @@ use Rattle.number.proofs.Laws.{Every}
 use Rattle.refusal.specs.declared.Refusal.{Refusal}
 use Rattle.refusal.specs.declared.Verdict.{Verdict}
 use Rattle.refusal.specs.declared.Verdict.the-variants.{Accepted, Refused}
-use Rattle.strip.specs.Checks.{headerFields, checkStrip, checkOutput}
+use Rattle.strip.specs.Checks.{headerFields}
 use Rattle.refusal.specs.Output.{onto, after}
 use Rattle.strip.specs.Reading.{stripPixels}
-use Rattle.strip.proofs.Limits.{Whole, whole-strip, output-strip}
+use Rattle.strip.proofs.Limits.{Whole}
 use Rattle.average.specs.declared.average.Average.{Average}
 use Rattle.average.specs.declared.average.Average.the-variants.{Absent, Present}
 use Rattle.average.specs.declared.tally.Tally.{Tally}
-use Rattle.average.specs.Averages.{storedAverage, IsStoredAverage}
-use Rattle.tone.specs.Levels.{IsKey}
+use Rattle.average.specs.Averages.{storedAverage}
+use Rattle.tone.specs.declared.tone.Tone.{Tone}
+use Rattle.tone.specs.Levels.{IsTone}
 use Rattle.luminance.specs.Pixels.{IsPixel}
 use Rattle.average.specs.Tallies.{tallyOf}
 use Rattle.tone.proofs.Laws.{level-bound}
 use Rattle.page.specs.declared.tally.TallyOrRefusal.{TallyOrRefusal}
 use Rattle.page.specs.declared.tally.TallyOrRefusal.the-variants.{Holds, Refuses}
 use Rattle.page.specs.Tallying.{stripLuminances, stripAverage, tallyUnder, tallyStrip}
-use Rattle.page.specs.Mapping.{levelsUnder, stripLevels}
-use Rattle.page.specs.Claims.{litCount, MeanHalf, EachThree, LitBound, LevelHalf, BoundsReported, DemandThree}
+use Rattle.body.specs.Luminances.{litCount}
+use Rattle.body.specs.Levels.{levelsUnder}
+use Rattle.body.proofs.Laws.{storedLuminance, lit-luminance, lit-count, every-luminance}
+use Rattle.page.specs.Checks.{checkTally, checkMap}
+use Rattle.page.specs.Mapping.{stripLevels}
+use Rattle.page.specs.Claims.{MeanHalf, EachThree, LitBound, LevelHalf, BoundsReported, DemandThree}
 use Rattle.page.specs.Claims.{WhereLit, TallyPromise, MapPromise}
-use Rattle.page.proofs.Luminances.{storedLuminance, lit-luminance, lit-count, every-luminance}
-use Rattle.average.proofs.Laws.{reported, absent, reported-range, mean-bound}
-use Rattle.page.proofs.Strips.{strip-key, strip-valid, strip-sum}
+use Rattle.average.proofs.Laws.{reported, absent, mean-bound}
+use Rattle.page.proofs.Checks.{tally-whole, map-tally}
+use Rattle.page.proofs.Strips.{strip-valid, strip-tone}
 
 -- ---- the levels of a list of pixels, with anything behind them
 
-module _ (K : ℕ) (key : IsKey K) (a : Stored) (average : IsStoredAverage a) where
-  levels-bound : (ps : List Pixel) (rest : List ℕ) → Every IsPixel ps
-      → EachThree (LitBound K a) ps (levelsUnder K a ps ++ rest)
+module _ (t : Tone) (tone : IsTone t) where
+  levels-bound : (ps : List Pixel) (rest : List ℕ) → Every IsPixel ps → EachThree (LitBound t) ps (levelsUnder t ps ++ rest)
+  unfolding flatMap
   levels-bound [] rest valid = tt
   levels-bound (p ∷ ps) rest valid = (
     (λ lit.
         let e = lit-luminance p lit in
         let bound = level-bound p (valid .0) (storedLuminance p) e in
         rw e (
-          bound (p .red) (inl refl) K key a average,
-          bound (p .green) (inr (inl refl)) K key a average,
-          bound (p .blue) (inr (inr refl)) K key a average,
+          bound (p .red) (inl refl) t tone,
+          bound (p .green) (inr (inl refl)) t tone,
+          bound (p .blue) (inr (inr refl)) t tone,
         )),
     levels-bound ps rest (valid .1),
   )
@@ -72,56 +77,56 @@ module _ (s : List ℕ) (ok : Whole s) where
       }
 
   level-half : {A : ℤ} (output : List ℕ) → stripAverage s ≡ Present A (storedAverage A)
-      → LevelHalf (headerFields s .key) (stripPixels s) A (onto (stripLevels s) output)
+      → LevelHalf (headerFields s) (stripPixels s) A (onto (stripLevels s) output)
   level-half output e =
       record {
-        each = rw e (levels-bound _ (strip-key s ok) _ (reported-range _ _ (strip-sum s ok) e) (stripPixels s) _ (strip-valid s ok));
+        each = rw e (levels-bound _ (strip-tone s ok e) (stripPixels s) _ (strip-valid s ok));
       }
 
 -- ---- what the calls promise
 
 -- the answer of a tally
 module _ (s : List ℕ) where
-  pub answered : {t : Tally} {a : Average} → checkStrip s ≡ Accepted → t ≡ tallyOf (stripLuminances s) → a ≡ stripAverage s
+  pub answered : {t : Tally} {a : Average} → checkTally s ≡ Accepted → t ≡ tallyOf (stripLuminances s) → a ≡ stripAverage s
       → Holds t a ≡ tallyStrip s
   unfolding tallyStrip
   answered e f g = rw (e, f, g)
 
-  pub refused : {r : Refusal} {i : ℕ} → checkStrip s ≡ Refused r i → Refuses r i ≡ tallyStrip s
+  pub refused : {r : Refusal} {i : ℕ} → checkTally s ≡ Refused r i → Refuses r i ≡ tallyStrip s
   unfolding tallyStrip
   refused e = rw e
 
 tally-bound : (s : List ℕ) → TallyPromise s (tallyStrip s)
 unfolding tallyStrip
-tally-bound s = by (checkStrip s) refl
+tally-bound s = by (checkTally s) refl
   where
-    by : (v : Verdict) → checkStrip s ≡ v → TallyPromise s (tallyUnder v (tallyOf (stripLuminances s)))
+    by : (v : Verdict) → checkTally s ≡ v → TallyPromise s (tallyUnder v (tallyOf (stripLuminances s)))
     by Accepted e =
-        (lit-count (stripPixels s), where-lit s (whole-strip s e) (MeanHalf (stripPixels s)) (λ A q. mean-half s (whole-strip s e) q))
+        (lit-count (stripPixels s), where-lit s (tally-whole s e) (MeanHalf (stripPixels s)) (λ A q. mean-half s (tally-whole s e) q))
     by (Refused r i) e = tt
 
 pub bounded : (s : List ℕ) {r : TallyOrRefusal} → r ≡ tallyStrip s → (r ≡ tallyStrip s) × TallyPromise s r
 bounded s e = (e, subst (TallyPromise s) (sym e) (tally-bound s))
 
-map-bound : (s output : List ℕ) → checkStrip s ≡ Accepted → MapPromise s Accepted (onto (stripLevels s) output)
-map-bound s output e = where-lit s (whole-strip s e) _ (λ A q. level-half s (whole-strip s e) output q)
+map-bound : (s output : List ℕ) → checkTally s ≡ Accepted → MapPromise s Accepted (onto (stripLevels s) output)
+map-bound s output e = where-lit s (tally-whole s e) _ (λ A q. level-half s (tally-whole s e) output q)
 
 -- the promise of mapping
 abbrev Mapped : (s old : List ℕ) → Verdict → (new : List ℕ) → Type 0
-Mapped s old v new = (v ≡ checkOutput s (length old)) × ((new ≡ after v (stripLevels s) old) × MapPromise s v new)
+Mapped s old v new = (v ≡ checkMap s (length old)) × ((new ≡ after v (stripLevels s) old) × MapPromise s v new)
 
-pub left-alone : (s old : List ℕ) {v : Verdict} {r : Refusal} {i : ℕ} → v ≡ checkOutput s (length old) → v ≡ Refused r i
+pub left-alone : (s old : List ℕ) {v : Verdict} {r : Refusal} {i : ℕ} → v ≡ checkMap s (length old) → v ≡ Refused r i
     → Mapped s old v old
 left-alone s old e f = (e, (rw f, rw f tt))
 
-pub filled : (s old new : List ℕ) → Accepted ≡ checkOutput s (length old) → new ≡ onto (stripLevels s) old → Mapped s old Accepted new
-filled s old new e f = (e, (f, rw f (map-bound s old (output-strip s (length old) (sym e)))))
+pub filled : (s old new : List ℕ) → Accepted ≡ checkMap s (length old) → new ≡ onto (stripLevels s) old → Mapped s old Accepted new
+filled s old new e f = (e, (f, rw f (map-bound s old (map-tally s (length old) (sym e)))))
 
 -- ---- both together
 
-module _ (s bytes : List ℕ) (ok : checkStrip s ≡ Accepted) (lit : 0 < litCount (stripPixels s)) where
+module _ (s bytes : List ℕ) (ok : checkTally s ≡ Accepted) (lit : 0 < litCount (stripPixels s)) where
   joined : (a : Average) → stripAverage s ≡ a → TallyPromise s (Holds (tallyOf (stripLuminances s)) a)
-      → WhereLit (stripPixels s) a (λ A. LevelHalf (headerFields s .key) (stripPixels s) A bytes) → BoundsReported s bytes
+      → WhereLit (stripPixels s) a (λ A. LevelHalf (headerFields s) (stripPixels s) A bytes) → BoundsReported s bytes
   joined Absent e mean levels = absurd (omega (arith, lit, mean .1))
   joined (Present A average) e mean levels =
       record {
@@ -132,5 +137,5 @@ module _ (s bytes : List ℕ) (ok : checkStrip s ≡ Accepted) (lit : 0 < litCou
 
 pub demand-three : DemandThree
 demand-three s output e lit =
-    let ok = output-strip s (length output) e in
+    let ok = map-tally s (length output) e in
     joined s _ ok lit (stripAverage s) refl (rw (← answered s ok refl refl) at (tally-bound s)) (map-bound s output ok)

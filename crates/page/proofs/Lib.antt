@@ -1,8 +1,5 @@
-pub mod Luminances
-pub mod Walks
+-- for the crates above
+pub mod Laws
+pub mod Checks
 pub mod Strips
 pub mod Bounds
-pub mod Indices
-pub mod Factors
-pub mod BlockIndices
-pub mod Blocks

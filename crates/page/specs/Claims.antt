@@ -1,35 +1,32 @@
 -- Demand 3, as one claim about a page. Assumes nothing.
 -- "the words of its strip, the A of step 3 that the tally reports for them, and the level bytes of step 6 that mapping leaves in the tray"
-use Prim.Native.Nat.{ℕ, suc, _<_}
+use Prim.Native.Nat.{ℕ, _<_}
 use mathlib.Core.Path.{_≡_}
-use mathlib.Core.Bool.{true, cond}
+use mathlib.Core.Bool.{true}
 use mathlib.Core.List.{List, [], _∷_}
 use lib.IntN.{ℤ}
 use lib.ListN.{length}
 use Rattle.number.specs.declared.channel.Pixel.{Pixel}
-use Rattle.number.specs.declared.ratio.Stored.{Stored}
 use Rattle.refusal.specs.declared.Verdict.{Verdict}
 use Rattle.refusal.specs.declared.Verdict.the-variants.{Accepted, Refused}
-use Rattle.strip.specs.Checks.{headerFields, checkOutput}
+use Rattle.word.specs.declared.header.Header.{Header}
+use Rattle.strip.specs.Checks.{headerFields}
 use Rattle.refusal.specs.Output.{onto}
 use Rattle.strip.specs.Reading.{stripPixels}
 use Rattle.average.specs.declared.average.Average.{Average}
 use Rattle.average.specs.declared.average.Average.the-variants.{Absent, Present}
 use Rattle.average.specs.Averages.{storedAverage}
 use Rattle.tone.specs.Claims.{LevelBound}
-use Rattle.tone.specs.Levels.{reinhard}
+use Rattle.tone.specs.declared.tone.Tone.{Tone}
 use Rattle.luminance.specs.Pixels.{anyLit}
 use Rattle.average.specs.Tallies.{tallyOf}
 use Rattle.page.specs.declared.tally.TallyOrRefusal.{TallyOrRefusal}
 use Rattle.page.specs.declared.tally.TallyOrRefusal.the-variants.{Holds, Refuses}
-use Rattle.page.specs.Tallying.{luminancesOf, stripLuminances, stripAverage, tallyStrip}
+use Rattle.body.specs.Luminances.{luminancesOf, litCount}
+use Rattle.page.specs.Checks.{checkMap}
+use Rattle.page.specs.Tallying.{stripLuminances, stripAverage, tallyStrip}
 use Rattle.average.specs.Claims.{MeanBound}
-use Rattle.page.specs.Mapping.{stripLevels}
-
--- "N counts these pixels."
-abbrev pub litCount : List Pixel → ℕ
-litCount [] = 0
-litCount (p ∷ ps) = cond (anyLit p) (suc (litCount ps)) (litCount ps)
+use Rattle.page.specs.Mapping.{toneOf, stripLevels}
 
 -- ---- the two halves
 
@@ -48,18 +45,17 @@ EachThree Bound (x ∷ xs) (r ∷ g ∷ []) = ⊥
 EachThree Bound (x ∷ xs) (r ∷ g ∷ b ∷ bytes) = Bound x r g b × EachThree Bound xs bytes
 
 -- "The level byte of that channel is less than 5/2 away from it", for each channel of a lit pixel
-abbrev pub LitBound : (K : ℕ) (average : Stored) → Pixel → (r g b : ℕ) → Type 0
-LitBound K a p r g b = anyLit p ≡ true
-    → LevelBound reinhard K a p (p .red) r × LevelBound reinhard K a p (p .green) g × LevelBound reinhard K a p (p .blue) b
+abbrev pub LitBound : Tone → Pixel → (r g b : ℕ) → Type 0
+LitBound t p r g b = anyLit p ≡ true → LevelBound t p (p .red) r × LevelBound t p (p .green) g × LevelBound t p (p .blue) b
 
--- under a key and the stored average of A
-pub record LevelHalf (K : ℕ) (ps : List Pixel) (A : ℤ) (bytes : List ℕ) : Type 0 where
-  pub each : EachThree (LitBound K (storedAverage A)) ps bytes
+-- under a header's key and the stored average of A
+pub record LevelHalf (h : Header) (ps : List Pixel) (A : ℤ) (bytes : List ℕ) : Type 0 where
+  pub each : EachThree (LitBound (toneOf h (storedAverage A))) ps bytes
 
 -- demand 3 of a page: words, A, level bytes
 pub record ToneBounds (s : List ℕ) (A : ℤ) (bytes : List ℕ) : Type 0 where
   pub mean : MeanHalf (stripPixels s) A
-  pub levels : LevelHalf (headerFields s .key) (stripPixels s) A bytes
+  pub levels : LevelHalf (headerFields s) (stripPixels s) A bytes
 
 -- ---- what the calls promise
 
@@ -76,7 +72,7 @@ TallyPromise s (Refuses r i) = Unit
 
 abbrev pub MapPromise : (s : List ℕ) → Verdict → (bytes : List ℕ) → Type 0
 MapPromise s Accepted bytes =
-    WhereLit (stripPixels s) (stripAverage s) (λ A. LevelHalf (headerFields s .key) (stripPixels s) A bytes)
+    WhereLit (stripPixels s) (stripAverage s) (λ A. LevelHalf (headerFields s) (stripPixels s) A bytes)
 MapPromise s (Refused r i) bytes = Unit
 
 -- ---- both together, of every page that both calls accept and that has a lit pixel; what mapping accepts, the tally accepts
@@ -90,5 +86,5 @@ pub record BoundsReported (s bytes : List ℕ) : Type 0 where
 -- Proved as `demand-three` in proofs/Bounds.antt.
 abbrev pub DemandThree : Type 0
 DemandThree =
-    (s output : List ℕ) → checkOutput s (length output) ≡ Accepted → 0 < litCount (stripPixels s)
+    (s output : List ℕ) → checkMap s (length output) ≡ Accepted → 0 < litCount (stripPixels s)
     → BoundsReported s (onto (stripLevels s) output)

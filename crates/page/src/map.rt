@@ -1,22 +1,50 @@
 // A page mapped to levels.
 ghost use mathlib.Core.Path.{_≡_};
-ghost use lib.ListN.{length};
-ghost use Rattle.strip.specs.Checks.{checkOutput};
-ghost use Rattle.refusal.specs.Output.{after};
-ghost use Rattle.page.specs.Mapping.{stripLevels};
+ghost use Prim.Native.Nat.{_≤_};
+ghost use lib.ListN.{length, replicate};
+ghost use Rattle.refusal.specs.Output.{onto, after};
+ghost use Rattle.strip.specs.Checks.{headerFields};
+ghost use Rattle.page.specs.Checks.{checkMap};
+ghost use Rattle.page.specs.Mapping.{toneOf, stripLevels};
 ghost use Rattle.page.specs.Claims.{MapPromise};
-use crate::body_levels::body_levels;
-use crate::body_levels::clear_levels;
-use crate::body_tally::body_indices;
 use average::average::Average;
 use average::average::average_of;
+use body::levels::map_levels;
+use body::tally::tally_keeping;
+use number::ratio::Stored;
 use refusal::Verdict;
 use strip::check::check_output;
+use strip::read::body;
+use tone::tone::Tone;
+use word::header::low_half;
 use word::header::pixel_count;
+
+// What a strip is mapped under: its key, and an average.
+fn tone_of(strip: &[u32], average: Stored) -> Tone
+    requires { ⌜ 2 ≤ length (now strip) ⌝ }
+    ensures { λ r. ⌜ r ≡ toneOf (headerFields (now (strip .entry))) average ⌝ }
+{
+    Tone {
+        key: low_half(strip[1]) as u64,
+        average: average,
+    }
+}
+
+// Level 0 in the first `count` bytes of the output.
+fn clear_levels(count: usize, output: &mut [u8])
+    requires { ⌜ count ≤ length (now output) ⌝ }
+    ensures { λ _. ⌜ now (output .exit) ≡ onto (replicate count 0) (now (output .entry)) ⌝ }
+{
+    let mut i: usize = 0;
+    while i < count {
+        output[i] = 0;
+        i += 1;
+    }
+}
 
 // Three level bytes a pixel, into the front of the output; a refusal leaves the output as it was.
 pub fn map(strip: &[u32], output: &mut [u8]) -> Verdict
-    ensures verdict { λ r. ⌜ r ≡ checkOutput (now (strip .entry)) (length (now (output .entry))) ⌝ }
+    ensures verdict { λ r. ⌜ r ≡ checkMap (now (strip .entry)) (length (now (output .entry))) ⌝ }
     ensures content { λ r. ⌜ now (output .exit) ≡ after r (stripLevels (now (strip .entry))) (now (output .entry)) ⌝ }
     ensures bound { λ r. ⌜ MapPromise (now (strip .entry)) r (now (output .exit)) ⌝ }
 {
@@ -24,11 +52,11 @@ pub fn map(strip: &[u32], output: &mut [u8]) -> Verdict
     let Verdict::Accepted = verdict else {
         return verdict;
     };
-    let tally = body_indices(strip, output);
+    let tally = tally_keeping(body(strip), output);
     let Average::Present(_, average) = average_of(tally.count, tally.sum) else {
         clear_levels(3 * pixel_count(strip[0]), output);
         return Verdict::Accepted;
     };
-    body_levels(strip, average, output);
+    map_levels(body(strip), tone_of(strip, average), output);
     Verdict::Accepted
 }

@@ -2,13 +2,13 @@
 ghost use mathlib.Core.Path.{_≡_};
 ghost use Rattle.page.specs.Tallying.{tallyStrip};
 ghost use Rattle.page.specs.Claims.{TallyPromise};
-use crate::body_tally::body_tally;
 use average::average::Average;
 use average::average::average_of;
 use average::tally::Tally;
 use refusal::Refusal;
 use refusal::Verdict;
 use strip::check::check;
+use strip::read::body;
 
 // The tally of an accepted strip with its average, or its refusal with the index where it was found, of which `outcome_of` tells
 // number and place.
@@ -25,7 +25,7 @@ pub fn tally(strip: &[u32]) -> TallyOrRefusal
     let verdict = check(strip);
     match verdict {
         Verdict::Accepted => {
-            let tally = body_tally(strip);
+            let tally = body::tally::tally(body(strip));
             TallyOrRefusal::Holds(tally, average_of(tally.count, tally.sum))
         },
         Verdict::Refused(refusal, i) => TallyOrRefusal::Refuses(refusal, i),

@@ -15,11 +15,11 @@ use Rattle.refusal.specs.declared.Verdict.{Verdict}
 use Rattle.refusal.specs.declared.Verdict.the-variants.{Accepted, Refused}
 use Rattle.refusal.specs.Verdicts.{reportOf, andThen}
 use Rattle.word.specs.Words.{pixels}
-use Rattle.strip.specs.Checks.{headerFields, checkStrip, checkOutput}
+use Rattle.strip.specs.Checks.{headerFields}
+use Rattle.page.specs.Checks.{checkTally, checkMap}
 use Rattle.refusal.specs.Output.{onto, after}
-use Rattle.strip.proofs.Limits.{room-enough, whole-strip}
 use Rattle.page.specs.Mapping.{stripLevels}
-use Rattle.page.proofs.Strips.{length-levels}
+use Rattle.page.proofs.Laws.{tally-whole, room-enough, length-levels}
 use Rattle.ppm.specs.declared.answer.Answer.{Answer}
 use Rattle.ppm.specs.Text.{ascii}
 use Rattle.ppm.specs.Words.{littleEndian, checkBytes}
@@ -43,8 +43,8 @@ laid-alone txt t₀ u₀ n t u = (same-counts n refl, (t, u))
 
 -- ---- a strip of at most 65,536 bytes, of 5,460 pixels at most
 
-module _ (s t₀ u₀ : List ℕ) (short : length s ≤ 16384) {v : Verdict} (told : v ≡ checkOutput s 16380) where
-  checked : v ≡ checkStrip s
+module _ (s t₀ u₀ : List ℕ) (short : length s ≤ 16384) {v : Verdict} (told : v ≡ checkMap s 16380) where
+  checked : v ≡ checkTally s
   checked = told ∙ room-enough s 16380 (λ long. omega (arith, short, long))
 
   pub laid-refused : {r : Refusal} {i n : ℕ} {t u : List ℕ} → v ≡ Refused r i → n ≡ length (printedRefusal (reportOf v) .text)
@@ -59,7 +59,7 @@ module _ (s t₀ u₀ : List ℕ) (short : length s ≤ 16384) {v : Verdict} (to
     laid-picture {m} {n} {t} {u} e count text long samples =
         let ok = sym checked ∙ e in
         let p : pictureOf s ≡ printedOf s = rw (← checked, e) in
-        let levels : n ≡ length (stripLevels s) = long ∙ sym (length-levels s (whole-strip s ok)) in
+        let levels : n ≡ length (stripLevels s) = long ∙ sym (length-levels s (tally-whole s ok)) in
         subst (λ q. Laid q (counts m n) t₀ t u₀ u) p
         (same-counts (rw (← width, ← height) count) levels, (rw (← width, ← height) text, samples ∙ rw e))
 
@@ -87,7 +87,7 @@ module _ (bs : List ℕ) where
     unfolding checkInput andThen
     input-uneven h = rw (count-uneven bs h)
 
-    input-even : length bs % 4 ≡ 0 → checkInput bs ≡ checkStrip (littleEndian bs)
+    input-even : length bs % 4 ≡ 0 → checkInput bs ≡ checkTally (littleEndian bs)
     unfolding checkInput andThen
     input-even h = rw (count-even bs h)
 

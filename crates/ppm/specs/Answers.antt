@@ -9,7 +9,8 @@ use Rattle.refusal.specs.declared.Verdict.{Verdict}
 use Rattle.refusal.specs.declared.Verdict.the-variants.{Accepted, Refused}
 use Rattle.refusal.specs.Refusals.{outcomeOf}
 use Rattle.refusal.specs.Verdicts.{andThen}
-use Rattle.strip.specs.Checks.{headerFields, checkStrip}
+use Rattle.strip.specs.Checks.{headerFields}
+use Rattle.page.specs.Checks.{checkTally}
 use Rattle.page.specs.Mapping.{stripLevels}
 use Rattle.ppm.specs.declared.answer.Answer.{Answer}
 use Rattle.ppm.specs.Text.{ascii, twoNumbers}
@@ -44,10 +45,10 @@ printedUnder (Refused r i) s = printedRefusal (outcomeOf r i)
 
 -- the answer to a strip
 abbrev pub printedOf : List ℕ → Printed
-printedOf s = printedUnder (checkStrip s) s
+printedOf s = printedUnder (checkTally s) s
 
 unfoldable pub checkInput : List ℕ → Verdict
-checkInput bs = andThen (checkCount bs) (checkStrip (littleEndian bs))
+checkInput bs = andThen (checkCount bs) (checkTally (littleEndian bs))
 
 -- "It reads a strip of at most 65,536 bytes from standard input. More bytes: it prints 'long' and a line feed."
 unfoldable pub printedFor : List ℕ → Printed

@@ -1,11 +1,11 @@
 -- Laws of the pixels that words stand for. Assumes nothing.
-use Prim.Native.Nat.{ℕ, zero, suc, _+_, _*_, _/_, _<_}
+use Prim.Native.Nat.{ℕ, zero, suc, _+_, _*_, _/_, _%_, _≤_, _<_}
 use mathlib.Core.Path.{_≡_, refl, sym, ap, _∙_}
-use mathlib.Core.List.{List, [], _∷_, _++_, map}
+use mathlib.Core.List.{List, [], _∷_, _++_, map, map-append}
 use native.Mathlib.Numerals.{add-one}
 use native.Mathlib.Omega.{arith}
-use lib.ListN.{length, getD, take, drop, length-map, List·getD-map}
-use lib.Seq.{take-suc, drop-cons}
+use lib.ListN.{length, getD, take, drop, length-drop, length-map, take-append-drop, List·getD-map}
+use lib.Seq.{take-suc, drop-cons, length-take-le, take-at, drop-at}
 use Rattle.number.specs.declared.channel.Channel.{Channel}
 use Rattle.number.specs.declared.channel.Channel.the-variants.{Black}
 use Rattle.number.specs.declared.channel.Decoded.{Decoded}
@@ -38,6 +38,13 @@ getD-pixels (r ∷ g ∷ b ∷ cs) (suc p) d h =
     let e₁ : 3 * suc p + 1 ≡ suc (suc (suc (3 * p + 1))) = omega arith in
     let e₂ : 3 * suc p + 2 ≡ suc (suc (suc (3 * p + 2))) = omega arith in
     rw (e₁, e₂, e₀) (getD-pixels cs p d (omega arith))
+
+-- the channels of whole pixels before others
+pub pixels-append : (cs ds : List Channel) → length cs % 3 ≡ 0 → pixelsOf (cs ++ ds) ≡ pixelsOf cs ++ pixelsOf ds
+pixels-append [] ds h = refl
+pixels-append (r ∷ []) ds h = absurd (omega arith)
+pixels-append (r ∷ g ∷ []) ds h = absurd (omega arith)
+pixels-append (r ∷ g ∷ b ∷ cs) ds h = rw (pixels-append cs ds (omega arith))
 
 -- ---- the channels of words
 
@@ -81,3 +88,28 @@ module _ (ws : List ℕ) (p : ℕ) (inside : p < length ws / 3) where
 
   pub drop-pixel : drop p (wordPixels ws) ≡ pixelAt ws p ∷ drop (p + 1) (wordPixels ws)
   drop-pixel = rw (add-one p) (drop-cons (wordPixels ws) p (pixelAt ws p) there ∙ rw pixel-at)
+
+-- the words of whole pixels before others
+pub word-pixels-append : (vs ws : List ℕ) → length vs % 3 ≡ 0 → wordPixels (vs ++ ws) ≡ wordPixels vs ++ wordPixels ws
+word-pixels-append vs ws h =
+    ap pixelsOf (map-append wordChannel vs ws) ∙ pixels-append (map wordChannel vs) (map wordChannel ws) (rw length-map h)
+
+-- the words of n pixels from number p on
+module _ (ws : List ℕ) (p n : ℕ) (inside : p + n ≤ length ws / 3) where
+  pub part-pixels : wordPixels (take (3 * n) (drop (3 * p) ws)) ≡ take n (drop p (wordPixels ws))
+  part-pixels =
+      let before = take (3 * p) ws in
+      let behind = drop (3 * p) ws in
+      let part = take (3 * n) behind in
+      let rest = drop (3 * n) behind in
+      let l₁ : length before ≡ 3 * p = length-take-le (3 * p) ws (omega arith) in
+      let l₂ : length part ≡ 3 * n = length-take-le (3 * n) behind (rw (length-drop (3 * p) ws) (omega arith)) in
+      let n₁ : length (wordPixels before) ≡ p = length-word-pixels before ∙ omega arith in
+      let n₂ : length (wordPixels part) ≡ n = length-word-pixels part ∙ omega arith in
+      let e₁ : wordPixels before ++ wordPixels behind ≡ wordPixels ws =
+      sym (word-pixels-append before behind (omega arith)) ∙ ap wordPixels (take-append-drop (3 * p) ws) in
+      let e₂ : wordPixels part ++ wordPixels rest ≡ wordPixels behind =
+      sym (word-pixels-append part rest (omega arith)) ∙ ap wordPixels (take-append-drop (3 * n) behind) in
+      sym (take-at (wordPixels part) (wordPixels rest) n n₂)
+      ∙ ap (take n) (e₂ ∙ sym (drop-at (wordPixels before) (wordPixels behind) p n₁))
+      ∙ ap (λ ps. take n (drop p ps)) e₁

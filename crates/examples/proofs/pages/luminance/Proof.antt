@@ -1,6 +1,6 @@
 -- `examples::pages::luminance` is safe: the channels of words are channels. Assumes nothing.
 use borrow.Author.Needs.{needs}
-use Rattle.page.proofs.Luminances.{pixel-valid}
+use Rattle.body.proofs.Laws.{pixel-valid}
 use Rattle.examples.proofs.pages.luminance.Statement.{statement}
 use Rattle.examples.proofs.pages.luminance.Tie as tie
 

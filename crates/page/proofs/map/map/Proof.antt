@@ -5,43 +5,64 @@ use native.Mathlib.Omega.{arith}
 use lib.ListN.{length}
 use denote.Ref.{now}
 use Rattle.refusal.specs.declared.Verdict.the-variants.{Accepted}
-use Rattle.strip.specs.Checks.{checkStrip}
-use Rattle.strip.proofs.Limits.{Fits, output-limits, output-strip}
-use Rattle.average.proofs.Laws.{reported-range}
-use Rattle.page.specs.Tallying.{stripAverage}
+use Rattle.refusal.specs.Output.{onto}
+use Rattle.strip.proofs.Limits.{Fits, length-body}
+use Rattle.strip.proofs.Bodies.{pixels-in}
+use Rattle.strip.specs.Reading.{stripPixels}
+use Rattle.average.specs.Tallies.{tallyOf}
+use Rattle.body.specs.loops.Indices.{indicesOf}
+use Rattle.page.specs.Checks.{checkMap}
+use Rattle.page.specs.Tallying.{stripLuminances, stripAverage}
+use Rattle.page.proofs.Checks.{map-checked, map-fits}
 use Rattle.page.proofs.Bounds.{left-alone, filled}
-use Rattle.page.proofs.Strips.{strip-sum, has-average, average-is, levels-absent, levels-present, strip-indices, over-indices}
+use Rattle.page.proofs.Strips.{strip-body, has-average, average-is, strip-tone, levels-absent, levels-present, strip-indices, over-indices}
 use Rattle.page.proofs.map.map.Statement.{statement}
 use Rattle.page.proofs.map.map.Tie as tie
 
 returns : tie.Need-returns
-returns c = left-alone _ _ (c .before .before .check-output .ensures) (c .enum-told2 .given .1)
+returns c = left-alone _ _ (map-checked _ _ (c .before .before .check-output .ensures)) (c .enum-told2 .given .1)
 
 -- what holds once the strip is accepted
+ok : (c : tie.After-enum-told)
+    → let a = c .before .before .before .before .before .args in checkMap (now (a .strip)) (length (now (a .output))) ≡ Accepted
+ok c = sym (map-checked _ _ (c .before .before .check-output .ensures)) ∙ c .enum-told .given .1
+
 limits : (c : tie.After-enum-told)
     → let a = c .before .before .before .before .before .args in Fits (now (a .strip)) (length (now (a .output)))
-limits c = output-limits _ _ (cc)
+limits c = map-fits _ _ (ok c)
 
-ok : (c : tie.After-enum-told) → checkStrip (now (c .before .before .before .before .before .args .strip)) ≡ Accepted
-ok c = output-strip _ (length (now (c .before .before .before .before .before .args .output))) (cc)
+tally-keeping-requires : tie.Need-tally-keeping-requires
+tally-keeping-requires c κs =
+    let b = c .before in
+    let q = limits (b .before) in
+    rw (b .body .ensures) (strip-body _ (q .strip), omega (arith, length-body _ (q .strip .head), q .fits))
+
+-- the tally, and what it left in the output
+told : (c : tie.After-tally-keeping)
+    → let a = c .before .before .before .before .before .before .before .before .args in
+    (c .tally-keeping .result ≡ tallyOf (stripLuminances (now (a .strip))))
+    × (c .tally-keeping .last .1 .0 ≡ onto (indicesOf (stripPixels (now (a .strip)))) (now (a .output)))
+told c =
+    let b = c .before .before in
+    rw (b .body .ensures, ← pixels-in _ (limits (b .before) .strip .channels)) at (c .tally-keeping .ensures)
 
 average-of-requires : tie.Need-average-of-requires
 average-of-requires c κs =
-    let b = c .before .before .before in
-    has-average _ (limits (b .before .before) .strip) _ (b .body-indices .ensures .0)
+    let t = c .before .before .before in
+    has-average _ (limits (t .before .before .before) .strip) _ (told t .0)
 
-told : (c : tie.After-average-of)
+average : (c : tie.After-average-of)
     → c .average-of .result
-    ≡ stripAverage (now (c .before .before .before .before .before .before .before .before .before .before .before .args .strip))
-told c =
-    let b = c .before .before .before .before in
-    average-is _ (limits (b .before .before) .strip) _ (b .body-indices .ensures .0) (c .average-of .ensures)
+    ≡ stripAverage (now (c .before .before .before .before .before .before .before .before .before .before .before .before .args .strip))
+average c =
+    let t = c .before .before .before .before in
+    average-is _ (limits (t .before .before .before) .strip) _ (told t .0) (c .average-of .ensures)
 
 clear-levels-requires : tie.Need-clear-levels-requires
 clear-levels-requires c κs =
     let p = c .before in
-    let b = p .before .before .before .before .before .before .before .before in
-    omega (arith, p .pixel-count .ensures, limits (b .before .before) .fits)
+    let e = p .before .before .before .before .before .before .before .before .before .before .before in
+    omega (arith, p .pixel-count .ensures, limits e .fits)
 
 returns-2 : tie.Need-returns-2
 returns-2 c =
@@ -49,46 +70,50 @@ returns-2 c =
     let p = l .before .before in
     let n = p .before .before in
     let a = n .before .before in
-    let b = a .before .before .before .before in
-    let e = b .before .before in
+    let t = a .before .before .before .before in
+    let e = t .before .before .before in
     let args = e .before .before .before .before .before .args in
-    let none = sym (told a) ∙ n .enum-told3 .given .1 in
+    let none = sym (average a) ∙ n .enum-told3 .given .1 in
     let zeros = levels-absent _ (limits e .strip) none (p .pixel-count .ensures) in
-    filled _ (now (args .output)) _ (cc)
-    ((rw zeros at (l .clear-levels .ensures)) ∙ over-indices _ (limits e .strip) _ (b .body-indices .ensures .1))
+    filled _ (now (args .output)) _ (sym (ok e))
+    ((rw zeros at (l .clear-levels .ensures)) ∙ over-indices _ (limits e .strip) _ (told t .1))
 
-body-levels-requires : tie.Need-body-levels-requires
-body-levels-requires c κs =
-    let v = c .before .before in
+map-levels-requires : tie.Need-map-levels-requires
+map-levels-requires c κs =
+    let f = c .before in
+    let b = f .before in
+    let v = b .before .before in
     let a = v .before .before in
-    let b = a .before .before .before .before in
-    let e = b .before .before in
-    let q = limits e in (
-      ok e,
-      reported-range _ _ (strip-sum _ (q .strip)) (sym (told a) ∙ v .average .given .1),
-      omega (arith, q .fits),
-      strip-indices _ (q .strip) _ (b .body-indices .ensures .1),
-    )
+    let t = a .before .before .before .before in
+    let e = t .before .before .before in
+    let q = limits e .strip in
+    rw (b .body2 .ensures, f .tone-of .ensures)
+    (strip-body _ q, strip-tone _ q (sym (average a) ∙ v .average .given .1), strip-indices _ q _ (told t .1))
 
 returns-3 : tie.Need-returns-3
 returns-3 c =
     let l = c .before .before in
-    let v = l .before .before .before in
+    let f = l .before .before in
+    let b = f .before in
+    let v = b .before .before in
     let a = v .before .before in
-    let b = a .before .before .before .before in
-    let e = b .before .before in
+    let t = a .before .before .before .before in
+    let e = t .before .before .before in
     let args = e .before .before .before .before .before .args in
-    let some = sym (told a) ∙ v .average .given .1 in
-    filled _ (now (args .output)) _ (cc)
-    ((rw (levels-present _ (limits e .strip) some) at (l .body-levels .ensures))
-    ∙ over-indices _ (limits e .strip) _ (b .body-indices .ensures .1))
+    let q = limits e .strip in
+    let some = sym (average a) ∙ v .average .given .1 in
+    let made = rw (b .body2 .ensures, f .tone-of .ensures, ← pixels-in (now (args .strip)) (q .channels), levels-present _ q some)
+    at (l .map-levels .ensures) in
+    filled _ (now (args .output)) _ (sym (ok e)) (made ∙ over-indices _ q _ (told t .1))
 
 pub map-spec : {M : Type 1} → statement M
 map-spec =
     tie.close
     (tie.spec
-    (λ c κs. search needs) (λ c. search needs) (λ c. search needs) returns (λ c κs. (ok (c .before), limits (c .before) .fits))
+    (λ c κs. search needs) (λ c. search needs) (λ c. search needs) returns (λ c κs. search needs) tally-keeping-requires
     average-of-requires (λ c. search needs) (λ c. search needs)
-    (λ c. omega (arith, limits (c .before .before .before .before .before .before .before .before .before) .strip .head .long)) (λ c κs. search needs)
-    (λ c. omega (arith, c .pixel-count .ensures, limits (c .before .before .before .before .before .before .before .before .before .before) .fits))
-    clear-levels-requires (λ c. search needs) returns-2 body-levels-requires (λ c. search needs) returns-3)
+    (λ c. omega (arith, limits (c .before .before .before .before .before .before .before .before .before .before) .strip .head .long)) (λ c κs. search needs)
+    (λ c. omega (arith, c .pixel-count .ensures, limits (c .before .before .before .before .before .before .before .before .before .before .before) .fits))
+    clear-levels-requires (λ c. search needs) returns-2 (λ c κs. search needs)
+    (λ c κs. omega (arith, limits (c .before .before .before .before .before .before .before .before .before .before .before) .strip .head .long))
+    map-levels-requires (λ c. search needs) returns-3)

@@ -5,17 +5,17 @@ use mathlib.Core.Path.{_≡_, ap, _∙_}
 use native.Mathlib.Omega.{arith}
 use lib.ListN.{length}
 use denote.Ref.{now}
-use Rattle.strip.specs.Checks.{checkOutput}
+use Rattle.page.specs.Checks.{checkMap}
 use Rattle.strip.proofs.Limits.{Fits, output-limits}
 use Rattle.ppm.proofs.Printing.{laid-refused, laid-picture}
 use Rattle.ppm.proofs.answer.picture.Statement.{statement}
 use Rattle.ppm.proofs.answer.picture.Tie as tie
 
-told : (c : tie.After-map) → c .map .result ≡ checkOutput (now (c .before .before .before .args .strip)) 16380
+told : (c : tie.After-map) → c .map .result ≡ checkMap (now (c .before .before .before .args .strip)) 16380
 told c =
     let a = c .before .before .before .args in
     let room : length (now (a .samples)) ≡ 16380 = omega arith in
-    c .map .ensures .0 ∙ ap (checkOutput (now (a .strip))) room
+    c .map .ensures .0 ∙ ap (checkMap (now (a .strip))) room
 
 returns : tie.Need-returns
 returns c =

@@ -1,0 +1,3 @@
+pub mod Luminances
+pub mod Levels
+pub mod loops

@@ -1,0 +1,5 @@
+-- What loops and tables keep to: no rule of the papers, and no claim.
+pub mod Indices
+pub mod NearBlocks
+pub mod FactorTables
+pub mod LevelBlocks
