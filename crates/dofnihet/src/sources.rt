@@ -3,33 +3,15 @@ ghost use mathlib.Core.Path.{_≡_};
 ghost use lib.ListN.{length};
 ghost use Rattle.convert.specs.Formats.{rgbe, half, single, stored};
 ghost use Rattle.convert.specs.Converting.{checkSource, converted};
-ghost use Rattle.dofnihet.specs.Answers.{headerOf, Reports};
+ghost use Rattle.answers.specs.Answers.{headerOf, Reports};
+use answers::headers::Page;
+use answers::headers::page_header;
 use convert::half::convert_half;
 use convert::rgbe::convert_rgbe;
 use convert::single::convert_single;
 use convert::stored::convert_stored;
 use refusal::Outcome;
 use refusal::report;
-use word::header::Header;
-
-// What a page is converted with, as C passes it.
-#[repr(C)]
-pub struct Page {
-    pub width: u64,
-    pub height: u64,
-    pub key: u64,
-}
-
-// The header that a page's numbers stand for.
-fn page_header(page: Page) -> Header
-    ensures { λ r. ⌜ r ≡ headerOf page ⌝ }
-{
-    Header {
-        width: page.width,
-        height: page.height,
-        key: page.key,
-    }
-}
 
 // A picture of RGBE bytes, four a pixel.
 #[no_mangle]

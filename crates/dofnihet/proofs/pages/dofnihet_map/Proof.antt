@@ -1,18 +1,14 @@
 -- `dofnihet::pages::dofnihet_map` meets its contract. Assumes nothing.
 use borrow.Author.Needs.{needs}
-use mathlib.Core.Path.{ap, _∙_}
-use Rattle.refusal.specs.Verdicts.{reportOf}
-use Rattle.dofnihet.proofs.Bounds.{map-bounded}
+use Rattle.answers.proofs.Laws.{reported, map-bounded}
 use Rattle.dofnihet.proofs.pages.dofnihet_map.Statement.{statement}
 use Rattle.dofnihet.proofs.pages.dofnihet_map.Tie as tie
 
 returns : tie.Need-returns
 returns c =
     let m = c .before .before .before .map in
-    let v = m .ensures in (
-      record { outcome = c .report .ensures ∙ ap reportOf (v .0); content = rw (← v .0) (v .1 .0) },
-      map-bounded _ (m .result) _ _ (c .report .ensures) (v .1 .1),
-    )
+    let v = m .ensures in
+    (reported (c .report .ensures) (v .0) (v .1 .0), map-bounded _ (m .result) _ _ (c .report .ensures) (v .1 .1))
 
 pub dofnihet-map-spec : {M : Type 1} → statement M
 dofnihet-map-spec = tie.close (tie.spec (λ c κs. search needs) (λ c κs. search needs) (λ c. search needs) returns)

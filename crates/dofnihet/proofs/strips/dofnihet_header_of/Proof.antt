@@ -1,15 +1,12 @@
 -- `dofnihet::strips::dofnihet_header_of` meets its contract. Assumes nothing.
 use borrow.Author.Needs.{needs}
-use mathlib.Core.Path.{sym}
+use mathlib.Core.Path.{ap, _∙_}
+use Rattle.answers.specs.Answers.{headerAnswer}
 use Rattle.dofnihet.proofs.strips.dofnihet_header_of.Statement.{statement}
 use Rattle.dofnihet.proofs.strips.dofnihet_header_of.Tie as tie
 
 returns : tie.Need-returns
-returns c = simp (sym (c .before .before .before .header .ensures), c .before .told .given .1)
-
-returns-2 : tie.Need-returns-2
-returns-2 c =
-    let b = c .before .before in simp (c .outcome-of .ensures, sym (b .before .before .header .ensures), b .refusal .given .1)
+returns c = c .header-answer .ensures ∙ ap headerAnswer (c .before .header .ensures)
 
 pub dofnihet-header-of-spec : {M : Type 1} → statement M
-dofnihet-header-of-spec = tie.close (tie.spec (λ c κs. search needs) (λ c. search needs) (λ c. search needs) (λ c κs. search needs) returns returns-2)
+dofnihet-header-of-spec = tie.close (tie.spec (λ c κs. search needs) (λ c κs. search needs) returns)

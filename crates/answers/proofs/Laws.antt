@@ -1,4 +1,4 @@
--- What tallying and mapping promise carries over to their answers in numbers. Assumes nothing.
+-- For the crates above: an answer in numbers keeps what the call beneath promises. Assumes nothing.
 use Prim.Native.Nat.{ℕ}
 use mathlib.Core.Path.{_≡_, sym, ap, subst, _∙_}
 use mathlib.Core.List.{List}
@@ -20,14 +20,20 @@ use Rattle.refusal.specs.declared.Verdict.{Verdict}
 use Rattle.refusal.specs.declared.Verdict.the-variants.{Accepted, Refused}
 use Rattle.refusal.specs.Refusals.{outcomeOf}
 use Rattle.refusal.specs.Verdicts.{reportOf}
+use Rattle.refusal.specs.Output.{after}
 use Rattle.average.specs.declared.average.Average.the-variants.{Absent, Present}
 use Rattle.page.specs.declared.tally.TallyOrRefusal.{TallyOrRefusal}
 use Rattle.page.specs.declared.tally.TallyOrRefusal.the-variants.{Holds, Refuses}
 use Rattle.page.specs.Claims.{TallyPromise, MapPromise}
 use Rattle.page.specs.Tallying.{tallyStrip}
-use Rattle.dofnihet.specs.declared.pages.TallyAnswer.{TallyAnswer}
-use Rattle.dofnihet.specs.Answers.{tallyAnswer}
-use Rattle.dofnihet.specs.Claims.{TallyBound, MapBound}
+use Rattle.answers.specs.declared.tallies.TallyAnswer.{TallyAnswer}
+use Rattle.answers.specs.Answers.{tallyAnswer, Reports}
+use Rattle.answers.specs.Claims.{TallyBound, MapBound}
+
+-- a call with an output
+pub reported : {verdict v : Verdict} {front old new : List ℕ} {told : Outcome} → told ≡ reportOf v → v ≡ verdict
+    → new ≡ after v front old → Reports verdict front old told new
+reported {front} {old} t v c = record { outcome = t ∙ ap reportOf v; content = c ∙ ap (λ w. after w front old) v }
 
 -- no refusal has number 0
 numbered : (r : Refusal) (i : ℕ) → outcomeOf r i .number ≡ 0 → ⊥

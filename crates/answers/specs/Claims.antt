@@ -5,8 +5,9 @@ use mathlib.Core.List.{List}
 use Rattle.strip.specs.Reading.{stripPixels}
 use Rattle.refusal.specs.declared.Outcome.{Outcome}
 use Rattle.refusal.specs.declared.Verdict.the-variants.{Accepted}
-use Rattle.page.specs.Claims.{litCount, MeanHalf, MapPromise}
-use Rattle.dofnihet.specs.declared.pages.TallyAnswer.{TallyAnswer}
+use Rattle.body.specs.Luminances.{litCount}
+use Rattle.page.specs.Claims.{MeanHalf, MapPromise}
+use Rattle.answers.specs.declared.tallies.TallyAnswer.{TallyAnswer}
 
 -- N counts the lit pixels; an average is absent only where there is none; the first half of demand 3 holds of a present one
 pub record TallyBound (s : List ℕ) (r : TallyAnswer) : Type 0 where

@@ -19,10 +19,10 @@ use Rattle.average.specs.declared.average.Average.the-variants.{Absent, Present
 use Rattle.average.specs.declared.tally.Tally.{Tally}
 use Rattle.page.specs.declared.tally.TallyOrRefusal.{TallyOrRefusal}
 use Rattle.page.specs.declared.tally.TallyOrRefusal.the-variants.{Holds as TallyHolds, Refuses as TallyRefuses}
-use Rattle.dofnihet.specs.declared.sources.Page.{Page}
-use Rattle.dofnihet.specs.declared.strips.HeaderAnswer.{HeaderAnswer}
-use Rattle.dofnihet.specs.declared.rows.RowAnswer.{RowAnswer}
-use Rattle.dofnihet.specs.declared.pages.TallyAnswer.{TallyAnswer}
+use Rattle.answers.specs.declared.headers.Page.{Page}
+use Rattle.answers.specs.declared.headers.HeaderAnswer.{HeaderAnswer}
+use Rattle.answers.specs.declared.rows.RowAnswer.{RowAnswer}
+use Rattle.answers.specs.declared.tallies.TallyAnswer.{TallyAnswer}
 
 -- the header that a page's numbers stand for
 unfoldable pub headerOf : Page → Header

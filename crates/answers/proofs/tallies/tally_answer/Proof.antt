@@ -1,0 +1,37 @@
+-- `answers::tallies::tally_answer` meets its contract. Assumes nothing.
+use borrow.Author.Needs.{needs}
+use mathlib.Core.Path.{_≡_, sym, ap, _∙_}
+use mir.Syntax.{w64}
+use mir.Val.{toZ, ofZ}
+use Rattle.answers.specs.Answers.{acceptedTally, tallyAnswer}
+use Rattle.answers.proofs.tallies.tally_answer.Statement.{statement}
+use Rattle.answers.proofs.tallies.tally_answer.Tie as tie
+
+returns : tie.Need-returns
+returns c =
+    let t = c .before .before .before .before in
+    let tally = t .answer .given .0 .0 in
+    let held : toZ w64 (ofZ w64 (tally .sum)) ≡ tally .sum = search needs in
+    let absent = ap (acceptedTally tally) (sym (c .before .enum-told .given .1)) in
+    rw held (absent ∙ ap tallyAnswer (sym (t .answer .given .1)))
+
+returns-2 : tie.Need-returns-2
+returns-2 c =
+    let v = c .before .before .before .before in
+    let t = v .before .before .before in
+    let tally = t .answer .given .0 .0 in
+    let steps = v .average .given .0 .0 in
+    let held : toZ w64 (ofZ w64 (tally .sum)) ≡ tally .sum = search needs in
+    let held′ : toZ w64 (ofZ w64 steps) ≡ steps = search needs in
+    let present = ap (acceptedTally tally) (sym (v .average .given .1)) in
+    rw (held, held′) (present ∙ ap tallyAnswer (sym (t .answer .given .1)))
+
+returns-3 : tie.Need-returns-3
+returns-3 c = simp (c .outcome-of .ensures, c .before .before .answer2 .given .1)
+
+pub tally-answer-spec : {M : Type 1} → statement M
+tally-answer-spec =
+    tie.close
+    (tie.spec
+    (λ c. search needs) (λ c. search needs) (λ c. search needs) (λ c. search needs) (λ c. search needs)
+    (λ c. search needs) (λ c κs. search needs) returns returns-2 returns-3)
