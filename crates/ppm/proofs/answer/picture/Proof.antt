@@ -1,12 +1,13 @@
 -- `ppm::answer::picture` meets its contract: the samples have room for every strip that the input can hold. Assumes nothing.
 use borrow.Author.Needs.{needs}
 use Prim.Native.Nat.{_*_}
-use mathlib.Core.Path.{_≡_, ap, _∙_}
+use mathlib.Core.Path.{_≡_, sym, ap, _∙_}
 use native.Mathlib.Omega.{arith}
 use lib.ListN.{length}
 use denote.Ref.{now}
 use Rattle.page.specs.Checks.{checkMap}
-use Rattle.strip.proofs.Limits.{Fits, output-limits}
+use Rattle.strip.proofs.Limits.{Fits}
+use Rattle.page.proofs.Laws.{map-fits}
 use Rattle.ppm.proofs.Printing.{laid-refused, laid-picture}
 use Rattle.ppm.proofs.answer.picture.Statement.{statement}
 use Rattle.ppm.proofs.answer.picture.Tie as tie
@@ -28,7 +29,7 @@ returns c =
 
 -- what holds once the strip is accepted
 limits : (c : tie.After-enum-told) → Fits (now (c .before .before .before .before .before .args .strip)) 16380
-limits c = output-limits _ 16380 (cc)
+limits c = let m = c .before .before in map-fits _ 16380 (sym (told m) ∙ c .enum-told .given .1)
 
 returns-2 : tie.Need-returns-2
 returns-2 c =
