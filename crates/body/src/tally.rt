@@ -14,7 +14,6 @@ ghost use Rattle.average.specs.loops.Entries.{IsLogTable};
 ghost use Rattle.average.specs.loops.Sums.{IsSum};
 ghost use Rattle.body.specs.Luminances.{luminancesOf};
 ghost use Rattle.body.specs.loops.Indices.{IsBody, luminanceAt, IsIndex, withPixel, indexBytes, indicesOf};
-ghost use Rattle.body.specs.loops.NearBlocks.{NearIndices};
 use crate::blocks::block_end;
 use crate::near::NEAR_PIXELS;
 use crate::near::near_indices;
@@ -67,33 +66,37 @@ fn store_index(index: u64, at: usize, output: &mut [u8])
     output[at + 2] = 0;
 }
 
-// A tally with the pixels of a block of words more. In an output that has room behind `at` for all of the words, the index of each pixel's
-// luminance goes into the pixel's place.
+// A tally with the pixels of a block of words more, the words from number `at` on of `all`. In an output that has room for all of them, the
+// index of each pixel's luminance goes into the pixel's place. The near indices of a whole block are worked out first.
 fn index_part(
     logs: &[u16; 128],
     reds: &[u64; 48],
     blues: &[u64; 48],
-    near: &[u16; 16],
     words: &[u32],
     at: usize,
+    all: usize,
     before: Tally,
     output: &mut [u8],
 ) -> Tally
-    requires { ⌜ IsLogTable (now logs) × IsWeightTable 27 (now reds) × IsWeightTable 6 (now blues) × NearIndices (now words) (now near)
-        × IsBody (now words) × (length (now words) ≤ 48) × (at ≤ 2 ^ 40)
+    requires { ⌜ IsLogTable (now logs) × IsWeightTable 27 (now reds) × IsWeightTable 6 (now blues) × IsBody (now words)
+        × (length (now words) ≤ 48) × (at + length (now words) ≤ all)
         × IsSum (before .count) (before .sum) × (before .count + 16 ≤ 2 ^ 40) ⌝ }
     ensures tally { λ r. ⌜ r ≡ join before (tallyOf (luminancesOf (wordPixels (now (words .entry))))) ⌝ }
     ensures content { λ _. ⌜ (length (now (output .exit)) ≡ length (now (output .entry)))
-        × (at + length (now (words .entry)) ≤ length (now (output .entry))
+        × (all ≤ length (now (output .entry))
         → now (output .exit) ≡ sets (now (output .entry)) at (indicesOf (wordPixels (now (words .entry))))) ⌝ }
 {
+    let mut near = [0u16; 16];
+    if words.len() == 3 * NEAR_PIXELS {
+        near_indices(words, &mut near);
+    }
     let pixels = words.len() / 3;
     let mut tally = before;
     let mut p: usize = 0;
     while p < pixels {
         let k = 3 * p;
         let index = word_index(reds, blues, near[p], words[k], words[k + 1], words[k + 2]);
-        if at + words.len() <= output.len() {
+        if all <= output.len() {
             store_index(index, at + k, output);
         }
         tally = with_index(logs, tally, index);
@@ -102,7 +105,7 @@ fn index_part(
     tally
 }
 
-// The tally of channel words, with the indices in an output that has room. Near indices are worked out for whole blocks.
+// The tally of channel words, with the indices in an output that has room.
 fn index_pixels(words: &[u32], output: &mut [u8]) -> Tally
     requires { ⌜ IsBody (now words) ⌝ }
     ensures tally { λ r. ⌜ r ≡ tallyOf (luminancesOf (wordPixels (now (words .entry)))) ⌝ }
@@ -112,25 +115,14 @@ fn index_pixels(words: &[u32], output: &mut [u8]) -> Tally
     let logs = log_table();
     let reds = weight_table(27);
     let blues = weight_table(6);
-    let pixels = words.len() / 3;
+    let all = words.len();
+    let pixels = all / 3;
     let mut tally = no_luminance();
     let mut p: usize = 0;
     while p < pixels {
         let end = block_end(p, NEAR_PIXELS, pixels);
-        let mut near = [0u16; 16];
-        if end - p == NEAR_PIXELS {
-            near_indices(&words[3 * p..3 * end], &mut near);
-        }
-        tally = index_part(
-            &logs,
-            &reds,
-            &blues,
-            &near,
-            &words[3 * p..3 * end],
-            3 * p,
-            tally,
-            output,
-        );
+        let part = &words[3 * p..3 * end];
+        tally = index_part(&logs, &reds, &blues, part, 3 * p, all, tally, output);
         p = end;
     }
     tally

@@ -3,7 +3,6 @@ use borrow.Author.Needs.{needs}
 use Prim.Native.Nat.{_+_, _-_, _*_, _/_, _≤_}
 use mathlib.Core.Path.{_≡_, refl, sym, ap, _∙_}
 use mathlib.Core.List.{[]}
-use mathlib.Core.Logic.{⊎-elim}
 use native.Mathlib.Nat.{zero-add}
 use native.Mathlib.Omega.{arith}
 use lib.ListN.{length, take, drop, length-take}
@@ -17,26 +16,24 @@ use Rattle.body.specs.Luminances.{luminancesOf}
 use Rattle.body.specs.loops.Indices.{indicesOf}
 use Rattle.body.proofs.Bytes.{length-indices}
 use Rattle.body.proofs.Indices.{body-part}
-use Rattle.body.proofs.NearBlocks.{none-near}
 use Rattle.body.proofs.Walks.{tallied, indexed, tallied-none, indexed-none, tallied-part, indexed-part, indexed-all, tallied-sum, tallied-whole}
 use Rattle.body.proofs.tally.index_pixels.Statement.{statement}
 use Rattle.body.proofs.tally.index_pixels.Tie as tie
 
 abbrev Inv-loop : tie.InvT-loop
-Inv-loop words output₀ logs reds blues pixels tally₀ p₀ output tally p =
+Inv-loop words output₀ logs reds blues all pixels tally₀ p₀ output tally p =
     (length output ≡ length output₀) × (length words ≤ length output₀ → output ≡ indexed output₀ 0 words p)
     × (tally ≡ tallied (tallyOf []) words p) × (p ≤ pixels)
 
 abbrev μ-loop : tie.MeasureT-loop
-μ-loop words output₀ logs reds blues pixels tally₀ p₀ output tally p = pixels - p
+μ-loop words output₀ logs reds blues all pixels tally₀ p₀ output tally p = pixels - p
 
 loop-holds : tie.Need-loop-holds Inv-loop μ-loop
 loop-holds c = (refl, λ fits. indexed-none _ _ _, c .no-luminance .ensures ∙ tallied-none _ _, omega arith)
 
 index-part-requires : tie.Need-index-part-requires Inv-loop μ-loop
 index-part-requires c κs =
-    let i = c .before .before .before .before .before .before in
-    let e = i .before in
+    let e = c .before .before .before .before .before in
     let t = e .before in
     let b = t .before .before .before in
     let r = b .before in
@@ -49,10 +46,9 @@ index-part-requires c κs =
       l .log-table .ensures,
       r .weight-table .ensures,
       b .weight-table2 .ensures,
-      ⊎-elim (λ w. rw (w .5) (w .3 .ensures)) (λ w. rw (w .1) (none-near _)) (i .if1 .came),
       body-part ws (s .pre) a k,
       omega (arith, length-take k (drop a ws), e .block-end .ensures),
-      omega (arith, s .pre .few, t .loop-test .taken),
+      omega (arith, length-take k (drop a ws), e .block-end .ensures, t .loop-test .taken),
       sums .0,
       omega (arith, s .pre .few, sums .1, t .loop-test .taken),
     )
@@ -60,7 +56,7 @@ index-part-requires c κs =
 loop-again : tie.Need-loop-again Inv-loop μ-loop
 loop-again c =
     let i = c .before .before in
-    let e = i .before .before .before .before .before .before .before .before in
+    let e = i .before .before .before .before .before .before in
     let t = e .before in
     let l = t .before .loop in
     let inv = l .inv in
@@ -75,7 +71,7 @@ loop-again c =
     let part = i .index-part .ensures in (
       part .1 .0 ∙ inv .0,
       λ fits.
-          part .1 .1 (omega (arith, fits, inv .0, length-take (3 * end - 3 * l .p) (drop (3 * l .p) ws)))
+          part .1 .1 (omega (arith, fits, inv .0))
           ∙ ap (λ u. sets u (3 * l .p) (indicesOf block)) (inv .1 fits)
           ∙ indexed-part ws (l .p) n inside is _ ∙ ap (indexed _ 0 ws) next,
       part .0 ∙ ap (λ u. join u (tallyOf (luminancesOf block))) (inv .2) ∙ tallied-part ws (l .p) n inside is _ ∙ ap (tallied (tallyOf []) ws) next,
@@ -99,7 +95,5 @@ index-pixels-spec =
     tie.close
     (tie.spec
     Inv-loop μ-loop (λ c κs. search needs) (λ c κs. search needs) (λ c κs. search needs) (λ c κs. search needs) loop-holds
-    (λ c κs. search needs) (λ c. omega (arith, c .block-end .ensures)) (λ c. omega arith) (λ c. omega arith) (λ c. omega arith)
-    (λ c. omega arith) (λ c. omega arith) (λ c. omega arith) (λ c. search needs) (λ c κs. search needs) (λ c. omega arith)
-    (λ c. omega arith) (λ c. omega arith) (λ c. omega arith) (λ c. omega arith) (λ c. omega arith) (λ c. omega arith)
-    index-part-requires (λ c. omega arith) loop-again (λ c. search needs) returns)
+    (λ c κs. search needs) (λ c. omega arith) (λ c. omega arith) (λ c. omega arith) (λ c. omega arith) (λ c. omega arith) (λ c. omega arith)
+    (λ c. omega arith) index-part-requires (λ c. omega arith) loop-again (λ c. search needs) returns)
