@@ -3,11 +3,10 @@ ghost use mathlib.Core.List.{[]};
 ghost use mathlib.Core.Path.{_≡_};
 ghost use Prim.Native.Nat.{_^_, _<_};
 ghost use Rattle.average.specs.Averages.{stepsOf};
-ghost use Rattle.average.specs.loops.Sums.{IsSum};
+ghost use Rattle.average.specs.loops.Sums.{IsSum, withLuminance};
 ghost use Rattle.luminance.specs.Pixels.{IsLuminance};
 ghost use Rattle.average.specs.loops.Entries.{IsLogTable};
 ghost use Rattle.average.specs.Tallies.{tallyOf};
-ghost use Rattle.average.specs.loops.Sums.{withLuminance};
 use number::ratio::Stored;
 
 // A tally: how many pixels are lit, and the sum of their steps.

@@ -1,6 +1,6 @@
 -- The factors of luminances under a tone, and the levels by them. Assumes nothing.
 use Prim.Native.Nat.{ℕ, _*_, _^_, _<_}
-use mathlib.Core.Path.{_≡_, refl, sym, subst, _∙_}
+use mathlib.Core.Path.{_≡_, refl, sym, _∙_}
 use mathlib.Core.Logic.{_⊎_, inl, inr, ⊎-elim}
 use mathlib.Core.List.{List}
 use native.Mathlib.Nat.{eq-zero-or-pos}
@@ -15,7 +15,7 @@ use Rattle.number.specs.declared.ratio.Stored.{Stored}
 use Rattle.luminance.specs.declared.pixel.Luminance.{Luminance}
 use Rattle.luminance.specs.declared.pixel.Luminance.the-variants.{Unlit, Lit}
 use Rattle.luminance.specs.loops.Codes.{indexOf, indexCount, storedAt}
-use Rattle.luminance.specs.Pixels.{IsPixel, luminanceOf, IsLuminance}
+use Rattle.luminance.specs.Pixels.{IsPixel, luminanceOf}
 use Rattle.tone.specs.declared.tone.Tone.{Tone}
 use Rattle.tone.specs.Levels.{IsTone, displayUnder}
 use Rattle.tone.specs.loops.Factors.{factorOf}

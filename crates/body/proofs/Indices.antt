@@ -16,10 +16,8 @@ use Rattle.luminance.specs.declared.pixel.Luminance.the-variants.{Unlit, Lit}
 use Rattle.luminance.specs.loops.Codes.{indexOf, indexCount, storedAt}
 use Rattle.luminance.specs.Pixels.{IsPixel, luminanceOf, IsLuminance}
 use Rattle.luminance.proofs.Laws.{luminance-range, index-stored, index-range}
-use Rattle.tone.specs.declared.tone.Tone.{Tone}
-use Rattle.body.specs.Levels.{levelsUnder}
 use Rattle.body.specs.loops.Indices.{IsBody, luminanceAt, InRange, IsIndex, pixelIndex, indicesOf, HoldsIndices}
-use Rattle.body.proofs.Bytes.{length-levels, length-indices}
+use Rattle.body.proofs.Bytes.{length-indices}
 
 -- ---- a part of the words
 

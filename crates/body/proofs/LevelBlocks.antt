@@ -1,5 +1,5 @@
 -- Blocks of pixels: their levels before the limit of 255, and then in the output. Assumes nothing.
-use Prim.Native.Nat.{ℕ, suc, _+_, _-_, _*_, _/_, _≤_, _<_, min}
+use Prim.Native.Nat.{ℕ, suc, _+_, _*_, _/_, _≤_, _<_, min}
 use mathlib.Core.Path.{_≡_, refl, sym, ap, _∙_}
 use mathlib.Core.List.{List, [], _∷_, _++_, map, append-assoc, append-nil, map-append, flatMap}
 use native.Mathlib.Omega.{arith}
@@ -17,7 +17,7 @@ use Rattle.body.specs.Levels.{levelsOf, levelsUnder}
 use Rattle.body.specs.loops.Indices.{indicesOf, HoldsIndices}
 use Rattle.body.specs.loops.FactorTables.{limited}
 use Rattle.body.specs.loops.LevelBlocks.{IsBlock, limitedFront, HoldsLevels}
-use Rattle.body.proofs.Bytes.{three-sets, levels-append, length-levels, indices-append, length-indices}
+use Rattle.body.proofs.Bytes.{levels-append, length-levels, indices-append, length-indices}
 
 -- ---- the numbers with their limit
 

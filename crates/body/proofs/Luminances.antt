@@ -11,7 +11,7 @@ use Rattle.number.specs.declared.channel.Channel.the-variants.{Lit}
 use Rattle.number.specs.declared.channel.Pixel.{Pixel}
 use Rattle.number.specs.declared.ratio.Stored.{Stored}
 use Rattle.number.proofs.Laws.{Every, storedOf}
-use Rattle.word.specs.Pixels.{pixelOf, wordChannel}
+use Rattle.word.specs.Pixels.{pixelOf, wordChannel, wordPixels}
 use Rattle.word.proofs.Pixels.{word-valid}
 use Rattle.luminance.specs.declared.pixel.Luminance.{Luminance}
 use Rattle.luminance.specs.declared.pixel.Luminance.the-variants.{Unlit}
@@ -20,7 +20,6 @@ use Rattle.average.specs.declared.tally.Tally.{Tally}
 use Rattle.average.specs.Averages.{stepsOf}
 use Rattle.average.specs.Tallies.{tallyOf, join}
 use Rattle.luminance.proofs.Laws.{luminance-range}
-use Rattle.word.specs.Pixels.{wordPixels}
 use Rattle.body.specs.Luminances.{ifLit, luminancesOf, litCount}
 use Rattle.body.specs.loops.Indices.{withPixel}
 use Rattle.average.proofs.Laws.{tally-append, tally-snoc}

@@ -1,13 +1,12 @@
 -- Walks that tally: at each turn the tally is that of the pixels so far, and their indices stand in the output. Assumes nothing.
-use Prim.Native.Nat.{ℕ, suc, _+_, _*_, _/_, _^_, _≤_, _<_}
+use Prim.Native.Nat.{ℕ, _+_, _*_, _/_, _^_, _≤_, _<_}
 use mathlib.Core.Path.{_≡_, refl, sym, ap, _∙_}
-use mathlib.Core.List.{List, [], _∷_, _++_, flatMap}
+use mathlib.Core.List.{List, [], _∷_, flatMap}
 use native.Mathlib.Nat.{add-zero, zero-add}
 use native.Mathlib.Omega.{arith}
 use lib.IntN.{+ℤ-idr}
 use lib.ListN.{length, take, drop}
 use lib.Seq.{take-all, take-add, sets, length-take-le}
-use Rattle.number.specs.declared.channel.Pixel.{Pixel}
 use Rattle.number.proofs.Laws.{every-take}
 use Rattle.word.specs.Pixels.{wordPixels}
 use Rattle.word.specs.loops.Walks.{pixelAt}
@@ -15,7 +14,7 @@ use Rattle.word.proofs.Pixels.{length-word-pixels, take-pixel, part-pixels}
 use Rattle.refusal.proofs.Outputs.{sets-append}
 use Rattle.luminance.specs.declared.pixel.Luminance.{Luminance}
 use Rattle.luminance.specs.declared.pixel.Luminance.the-variants.{Unlit, Lit}
-use Rattle.luminance.specs.Pixels.{IsPixel, luminanceOf}
+use Rattle.luminance.specs.Pixels.{IsPixel}
 use Rattle.average.specs.declared.tally.Tally.{Tally}
 use Rattle.average.specs.loops.Sums.{IsSum}
 use Rattle.average.specs.Tallies.{sumOf, tallyOf, join}
