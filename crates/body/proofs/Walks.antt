@@ -33,6 +33,10 @@ tallied before ws p = join before (tallyOf (luminancesOf (take p (wordPixels ws)
 unfoldable pub indexed : List ℕ → (at : ℕ) → List ℕ → (p : ℕ) → List ℕ
 indexed t at ws p = sets t at (indicesOf (take p (wordPixels ws)))
 
+indices-long : (ws : List ℕ) (p : ℕ) → p ≤ length ws / 3 → length (indicesOf (take p (wordPixels ws))) ≡ 3 * p
+indices-long ws p h =
+    length-indices (take p (wordPixels ws)) ∙ ap (λ n. 3 * n) (length-take-le p (wordPixels ws) (rw (length-word-pixels ws) h))
+
 -- ---- at first
 
 pub tallied-none : (before : Tally) (ws : List ℕ) → before ≡ tallied before ws 0
@@ -65,9 +69,8 @@ module _ (ws : List ℕ) (p : ℕ) (inside : p < length ws / 3) {i : ℕ} (index
   unfolding indexed flatMap
   indexed-next t at =
       let ps = take p (wordPixels ws) in
-      let n : 3 * p ≡ length (indicesOf ps) =
-      sym (length-indices ps ∙ ap (λ k. 3 * k) (length-take-le p (wordPixels ws) (rw (length-word-pixels ws) (omega arith)))) in
-      rw (n, index, take-pixel ws p inside) (sets-append t at (indicesOf ps) (indexBytes (pixelIndex (pixelAt ws p))) ∙ ap (sets t at) (sym (indices-append ps (pixelAt ws p ∷ []))))
+      rw (← indices-long ws p (omega arith), index, take-pixel ws p inside)
+      (sets-append t at (indicesOf ps) (indexBytes (pixelIndex (pixelAt ws p))) ∙ ap (sets t at) (sym (indices-append ps (pixelAt ws p ∷ []))))
 
 -- ---- all pixels
 
@@ -98,8 +101,7 @@ module _ (ws : List ℕ) (p n : ℕ) (inside : p + n ≤ length ws / 3) {part : 
   unfolding indexed
   indexed-part t =
       let ps = wordPixels ws in
-      let k : 3 * p ≡ 0 + length (indicesOf (take p ps)) =
-      sym (zero-add _ ∙ length-indices (take p ps) ∙ ap (λ j. 3 * j) (length-take-le p ps (rw (length-word-pixels ws) (omega arith)))) in
+      let k : 3 * p ≡ 0 + length (indicesOf (take p ps)) = sym (zero-add _ ∙ indices-long ws p (omega arith)) in
       rw (is, part-pixels ws p n inside, take-add p n ps, indices-append (take p ps) (take n (drop p ps)), k)
       (sets-append t 0 (indicesOf (take p ps)) (indicesOf (take n (drop p ps))))
 

@@ -28,7 +28,7 @@ use tone::level::scaled_table;
 use tone::tone::Tone;
 use word::header::low_half;
 
-// The most pixels whose limits are taken together.
+// The pixels whose limits are taken together, with 192 levels.
 const LEVEL_PIXELS: usize = 64;
 
 // What stands for the factor of an unlit pixel: a number other than 0 that makes every level 0.

@@ -43,7 +43,7 @@ abbrev pub printedUnder : Verdict → List ℕ → Printed
 printedUnder Accepted s = pictureOf s
 printedUnder (Refused r i) s = printedRefusal (outcomeOf r i)
 
--- the answer to a strip
+-- the answer to a strip: there is room for the samples of every page that the input can hold, so it is checked as for its tally
 abbrev pub printedOf : List ℕ → Printed
 printedOf s = printedUnder (checkTally s) s
 
