@@ -10,7 +10,7 @@ use Rattle.average.specs.Averages.{stepsOf, floorDiv, IsAverage}
 abbrev pub withLuminance : Tally → Stored → Tally
 withLuminance t y = record { count = t .count + 1; sum = t .sum +ℤ stepsOf y }
 
--- the average of count and sum, where there is one, lies among them
+-- the average of count and sum, where there is one, lies among those that there are
 pub record HasAverage (count : ℕ) (sum : ℤ) : Type 0 where
   pub in-range : 0 < count → IsAverage (floorDiv sum count)
 

@@ -3,7 +3,7 @@ use Prim.Native.Nat.{ℕ, _+_, _%_, _≤_}
 use Rattle.number.specs.Channels.{channelIn, codeOf}
 use Rattle.number.specs.Sources.{channelOfValue, halfValue}
 
--- the 16-bit form of its channel; 0 where it is refused
+-- the 16-bit form of the channel that a half becomes; 0 where it is refused
 abbrev pub halfCode : (b : ℕ) → ℕ
 halfCode b = codeOf (channelIn (channelOfValue (halfValue b)))
 
