@@ -1,3 +1,4 @@
 pub mod Refusals
 pub mod Verdicts
 pub mod Output
+pub mod Told
