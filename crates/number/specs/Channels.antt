@@ -1,8 +1,10 @@
 -- What a channel is: "black, stored as (0,0), or lit, stored as exponent E and mantissa M". Assumes nothing.
 use mathlib.Core.Path.{_≡_}
 use mathlib.Core.Bool.{cond, _&&_}
+use mathlib.Core.List.{[], _∷_}
 use Prim.Native.Nat.{ℕ, _+_, _*_, _/_, _%_, _≤_}
 use lib.Dec.{leb, eqb}
+use lib.IntN.{pos}
 use Rattle.number.specs.Fractions.{Frac, _over_, byRange}
 use Rattle.number.specs.Storing.{leastMantissa, IsMantissa, unit, worth, exponentOf, mantissaOf}
 use Rattle.number.specs.declared.channel.Channel.{Channel}
@@ -10,6 +12,7 @@ use Rattle.number.specs.declared.channel.Channel.the-variants.{Black, Li
 use Rattle.number.specs.declared.channel.Decoded.{Decoded}
 use Rattle.number.specs.declared.channel.Decoded.the-variants.{Holds, Refuses}
 use Rattle.refusal.specs.declared.Refusal.the-variants.{TooBright, InvalidChannel}
+use Rattle.refusal.specs.Told.{Told, holding, refusing}
 
 -- "F at or below 2^-57 becomes black; F above 2^56 is refused."
 abbrev pub blackPower : ℕ
@@ -49,6 +52,11 @@ worthOf (Lit E M) = worth E M
 abbrev pub codeOf : Channel → ℕ
 codeOf Black = 0
 codeOf (Lit E M) = 256 * E + M
+
+-- an answer's: the channel's number, or the refusal of a number that stands alone and has no place
+abbrev pub decodedTold : Decoded → Told
+decodedTold (Holds c) = holding (pos (codeOf c) ∷ [])
+decodedTold (Refuses r) = refusing r 0
 
 -- refused where it is "neither (0,0) nor E 72..184 with M 128..255"
 unfoldable pub channelOfCode : ℕ → Decoded

@@ -1,6 +1,6 @@
 // Channels and pixels by value, and a channel's 16-bit form.
 ghost use mathlib.Core.Path.{_≡_};
-ghost use Rattle.number.specs.Channels.{codeOf, channelOfCode, channelIn};
+ghost use Rattle.number.specs.Channels.{codeOf, decodedTold, channelOfCode, channelIn};
 use refusal::Refusal;
 
 // A channel: black, or lit with an exponent and a mantissa.
@@ -30,7 +30,8 @@ const LEAST_MANTISSA: u16 = 128;
 
 // The channel of a 16-bit number 256E + M, 0 for black.
 pub fn code_to_channel(code: u16) -> Decoded
-    ensures { λ r. ⌜ r ≡ channelOfCode code ⌝ }
+    ensures answer { λ r. ⌜ r ≡ channelOfCode code ⌝ }
+    ensures told { λ r. ⌜ decodedTold r ≡ decodedTold (channelOfCode code) ⌝ }
 {
     if code == 0 {
         return Decoded::Holds(Channel::Black);

@@ -1,6 +1,7 @@
 // The numbers of a source picture as channels: IEEE halves and singles, and RGBE bytes. Any bits are taken.
 ghost use mathlib.Core.Path.{_≡_};
 ghost use Prim.Native.Nat.{_+_, _^_, _<_};
+ghost use Rattle.number.specs.Channels.{decodedTold};
 ghost use Rattle.number.specs.Sources.{channelOfValue, fieldValue, halfValue, singleValue, rgbeValue};
 ghost use Rattle.number.specs.loops.Halves.{NotSubnormal, halfCode};
 use crate::channel::Channel;
@@ -36,7 +37,8 @@ fn float_to_channel(
 
 // A half: 1, 5 and 10 bits.
 pub fn half_to_channel(bits: u16) -> Decoded
-    ensures { λ r. ⌜ r ≡ channelOfValue (halfValue bits) ⌝ }
+    ensures answer { λ r. ⌜ r ≡ channelOfValue (halfValue bits) ⌝ }
+    ensures told { λ r. ⌜ decodedTold r ≡ decodedTold (channelOfValue (halfValue bits)) ⌝ }
 {
     float_to_channel(
         1024,
@@ -73,7 +75,8 @@ pub fn half_code(bits: u16) -> u16
 
 // A single: 1, 8 and 23 bits.
 pub fn single_to_channel(bits: u32) -> Decoded
-    ensures { λ r. ⌜ r ≡ channelOfValue (singleValue bits) ⌝ }
+    ensures answer { λ r. ⌜ r ≡ channelOfValue (singleValue bits) ⌝ }
+    ensures told { λ r. ⌜ decodedTold r ≡ decodedTold (channelOfValue (singleValue bits)) ⌝ }
 {
     float_to_channel(
         8388608,
@@ -87,7 +90,8 @@ pub fn single_to_channel(bits: u32) -> Decoded
 
 // A byte of an RGBE pixel beside the pixel's exponent byte.
 pub fn rgbe_to_channel(byte: u8, exponent: u8) -> Decoded
-    ensures { λ r. ⌜ r ≡ channelOfValue (rgbeValue byte exponent) ⌝ }
+    ensures answer { λ r. ⌜ r ≡ channelOfValue (rgbeValue byte exponent) ⌝ }
+    ensures told { λ r. ⌜ decodedTold r ≡ decodedTold (channelOfValue (rgbeValue byte exponent)) ⌝ }
 {
     if exponent == 0 {
         return Decoded::Holds(Channel::Black);

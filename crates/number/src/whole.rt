@@ -3,7 +3,7 @@ ghost use mathlib.Core.Path.{_≡_};
 ghost use Prim.Native.Nat.{_*_, _^_, _<_};
 ghost use Rattle.number.specs.Fractions.{_over_};
 ghost use Rattle.number.specs.Storing.{Scales};
-ghost use Rattle.number.specs.Channels.{channelOf};
+ghost use Rattle.number.specs.Channels.{channelOf, decodedTold};
 use crate::channel::Channel;
 use crate::channel::Decoded;
 use crate::channel::GREATEST_EXPONENT;
@@ -30,7 +30,8 @@ fn shift_up(m: u64) -> Shifted
 
 // The channel of m * 2^up / 2^down.
 pub fn whole_to_channel(m: u32, up: u8, down: u8) -> Decoded
-    ensures { λ r. ⌜ r ≡ channelOf (m * 2 ^ up over 2 ^ down) ⌝ }
+    ensures answer { λ r. ⌜ r ≡ channelOf (m * 2 ^ up over 2 ^ down) ⌝ }
+    ensures told { λ r. ⌜ decodedTold r ≡ decodedTold (channelOf (m * 2 ^ up over 2 ^ down)) ⌝ }
 {
     if m == 0 {
         return Decoded::Holds(Channel::Black);

@@ -8,13 +8,13 @@ use Rattle.number.proofs.source.float_to_channel.Tie as tie
 
 returns-3 : tie.Need-returns-3
 returns-3 c =
-    c .whole-to-channel .ensures
+    c .whole-to-channel .ensures .0
     ∙ sym (positive _ _ _ _ _ _ (c .before .before .before .if1 .left) (c .before .before .if2 .left)
     ∙ ap channelOf (subnormal _ _ _ _ (c .before .if3 .taken)))
 
 returns-4 : tie.Need-returns-4
 returns-4 c =
-    c .whole-to-channel2 .ensures
+    c .whole-to-channel2 .ensures .0
     ∙ sym (positive _ _ _ _ _ _ (c .before .before .before .if1 .left) (c .before .before .if2 .left)
     ∙ ap channelOf (normal _ _ _ _ (c .before .if3 .left)))
 

@@ -9,5 +9,5 @@ half-code-spec =
     tie.close
     (tie.spec
     (λ c κs. search needs) (λ c κs. search needs) (λ c κs. search needs) (λ c κs. search needs)
-    (λ c. rw (c .before .half-to-channel .ensures) at (c .decoded-code .ensures))
+    (λ c. rw (c .before .half-to-channel .ensures .0) at (c .decoded-code .ensures))
     (λ c. c .plain-half-code .ensures (omega arith)))

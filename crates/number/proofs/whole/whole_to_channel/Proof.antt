@@ -3,6 +3,8 @@ use mathlib.Core.Path.{_≡_, sym, subst}
 use Prim.Native.Nat.{ℕ, _+_, _*_, _^_, _≤_}
 use native.Mathlib.Omega.{arith}
 use borrow.Author.Needs.{needs}
+use Rattle.refusal.proofs.Laws.{also}
+use Rattle.number.specs.Channels.{decodedTold}
 use Rattle.number.specs.Fractions.{_over_}
 use Rattle.number.specs.Storing.{Scales}
 use Rattle.number.proofs.Scaling.{rescale, whole-powers-into}
@@ -18,16 +20,16 @@ moved : {m s M : ℕ} (a b : ℕ) → Scales (m over 1) s 63 M → Scales (m * 2
 moved a b t = whole-powers-into a b (rescale t (omega arith))
 
 returns : tie.Need-returns
-returns c = sym (black _ (record { cross = nothing _ _ _ _ (c .if1 .taken) }))
+returns c = also decodedTold (sym (black _ (record { cross = nothing _ _ _ _ (c .if1 .taken) })))
 
 returns-2 : tie.Need-returns-2
-returns-2 c = sym (black-at (moved _ _ (c .before .before .shift-up .ensures)) (c .if2 .taken))
+returns-2 c = also decodedTold (sym (black-at (moved _ _ (c .before .before .shift-up .ensures)) (c .if2 .taken)))
 
 returns-3 : tie.Need-returns-3
-returns-3 c = sym (bright-at (moved _ _ (c .before .before .before .shift-up .ensures)) (c .if3 .taken))
+returns-3 c = also decodedTold (sym (bright-at (moved _ _ (c .before .before .before .shift-up .ensures)) (c .if3 .taken)))
 
 returns-4 : tie.Need-returns-4
-returns-4 c = sym (lit-at (moved _ _ (c .before .before .before .shift-up .ensures)) (omega arith) (omega arith))
+returns-4 c = also decodedTold (sym (lit-at (moved _ _ (c .before .before .before .shift-up .ensures)) (omega arith) (omega arith)))
 
 pub whole-to-channel-spec : {M : Type 1} → statement M
 whole-to-channel-spec =
