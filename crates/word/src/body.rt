@@ -4,6 +4,8 @@ ghost use Rattle.word.specs.Words.{channelWord};
 ghost use Rattle.word.specs.Fields.{decodeWord};
 ghost use Rattle.word.specs.Placing.{verdictAt};
 ghost use Rattle.word.specs.Pixels.{pixelOf, wordChannel};
+ghost use Rattle.number.specs.Channels.{decodedTold};
+ghost use Rattle.refusal.specs.Verdicts.{reportOf};
 use crate::header::low_half;
 use number::channel::Channel;
 use number::channel::Decoded;
@@ -24,7 +26,8 @@ pub fn channel_word(k: usize, code: u16) -> u32
 
 // The channel that a word stands for as the word of channel k.
 pub fn decode_word(k: usize, word: u32) -> Decoded
-    ensures { λ r. ⌜ r ≡ decodeWord k word ⌝ }
+    ensures answer { λ r. ⌜ r ≡ decodeWord k word ⌝ }
+    ensures told { λ r. ⌜ decodedTold r ≡ decodedTold (decodeWord k word) ⌝ }
 {
     let code = low_half(word);
     if word == channel_word(k, code) {
@@ -36,7 +39,8 @@ pub fn decode_word(k: usize, word: u32) -> Decoded
 
 // The verdict on what an element or word stands for; its index is i.
 pub fn verdict_at(i: usize, decoded: Decoded) -> Verdict
-    ensures { λ r. ⌜ r ≡ verdictAt i decoded ⌝ }
+    ensures verdict { λ r. ⌜ r ≡ verdictAt i decoded ⌝ }
+    ensures outcome { λ r. ⌜ reportOf r ≡ reportOf (verdictAt i decoded) ⌝ }
 {
     match decoded {
         Decoded::Holds(_) => Verdict::Accepted,

@@ -3,6 +3,7 @@ ghost use mathlib.Core.Path.{_≡_};
 ghost use Prim.Native.Nat.{_*_};
 ghost use Rattle.word.specs.Words.{sizeFits, keyFits, sizeWord, keyWord, endWord};
 ghost use Rattle.word.specs.Fields.{widthIn, heightIn, low16, checkSizeWord, checkKeyWord};
+ghost use Rattle.refusal.specs.Verdicts.{reportOf};
 use refusal::Refusal;
 use refusal::Verdict;
 
@@ -91,7 +92,8 @@ pub fn end_word(pixels: u32) -> u64
 
 // The verdict on the first word of a strip.
 pub fn check_size_word(word: u32) -> Verdict
-    ensures { λ r. ⌜ r ≡ checkSizeWord word ⌝ }
+    ensures verdict { λ r. ⌜ r ≡ checkSizeWord word ⌝ }
+    ensures outcome { λ r. ⌜ reportOf r ≡ reportOf (checkSizeWord word) ⌝ }
 {
     let width = width_in(word);
     let height = height_in(word);
@@ -107,7 +109,8 @@ pub fn check_size_word(word: u32) -> Verdict
 
 // The verdict on the second word of a strip.
 pub fn check_key_word(word: u32) -> Verdict
-    ensures { λ r. ⌜ r ≡ checkKeyWord word ⌝ }
+    ensures verdict { λ r. ⌜ r ≡ checkKeyWord word ⌝ }
+    ensures outcome { λ r. ⌜ reportOf r ≡ reportOf (checkKeyWord word) ⌝ }
 {
     let key = low_half(word);
     if word != key_word(key) {

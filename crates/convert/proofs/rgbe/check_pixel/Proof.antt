@@ -10,7 +10,7 @@ returns : tie.Need-returns
 unfolding andThen
 returns c =
     let r = c .before .before .before in
-    simp (c .verdict-at .ensures, sym (r .rgbe-to-channel .ensures), c .before .enum-told2 .given .1)
+    simp (c .verdict-at .ensures .0, sym (r .rgbe-to-channel .ensures .0), c .before .enum-told2 .given .1)
 
 returns-2 : tie.Need-returns-2
 unfolding andThen
@@ -19,7 +19,7 @@ returns-2 c =
     let r = g .before in
     simp (
       c .verdict-at2 .ensures,
-      sym (r .before .before .rgbe-to-channel .ensures),
+      sym (r .before .before .rgbe-to-channel .ensures .0),
       r .enum-told .given .1,
       sym (g .rgbe-to-channel2 .ensures),
       c .before .enum-told4 .given .1,
@@ -33,7 +33,7 @@ returns-3 c =
     let r = g .before .before .before in
     simp (
       c .verdict-at3 .ensures,
-      sym (r .before .before .rgbe-to-channel .ensures),
+      sym (r .before .before .rgbe-to-channel .ensures .0),
       r .enum-told .given .1,
       sym (g .before .before .rgbe-to-channel2 .ensures),
       g .enum-told3 .given .1,

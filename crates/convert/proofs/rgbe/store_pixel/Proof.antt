@@ -17,7 +17,7 @@ returns c =
       g .decoded-word2 .ensures,
       d .rgbe-to-channel2 .ensures,
       r .decoded-word .ensures,
-      r .before .rgbe-to-channel .ensures,
+      r .before .rgbe-to-channel .ensures .0,
     )
 
 pub store-pixel-spec : {M : Type 1} → statement M

@@ -22,7 +22,7 @@ loop-again : tie.Need-loop-again Inv-loop μ-loop
 loop-again c =
     let t = c .before .before .before in
     let l = t .before .loop in
-    writing-next _ _ _ (l .body) (l .inv) (t .loop-test .taken) (c .before .code-to-channel .ensures) (c .decoded-word .ensures)
+    writing-next _ _ _ (l .body) (l .inv) (t .loop-test .taken) (c .before .code-to-channel .ensures .0) (c .decoded-word .ensures)
 
 returns : tie.Need-returns Inv-loop μ-loop
 returns c = writing-done _ _ _ _ (c .before .loop .inv) (c .loop-test .left)

@@ -20,14 +20,14 @@ returns-2 : tie.Need-returns-2
 unfolding checkHead require andThen
 returns-2 c =
     let s = now (c .before .before .before .before .before .before .args .strip) in
-    simp (le-leb 2 (length s) (omega arith), sym (c .before .before .check-size-word .ensures), c .enum-told2 .given .1)
+    simp (le-leb 2 (length s) (omega arith), sym (c .before .before .check-size-word .ensures .0), c .enum-told2 .given .1)
 
 returns-3 : tie.Need-returns-3
 unfolding checkHead require andThen
 returns-3 c =
     let s = now (c .before .before .before .before .before .before .before .before .before .before .args .strip) in
     let size : checkSizeWord (wordAt s 0) ≡ Accepted = cc in
-    simp (le-leb 2 (length s) (omega arith), size, sym (c .before .before .check-key-word .ensures), c .enum-told4 .given .1)
+    simp (le-leb 2 (length s) (omega arith), size, sym (c .before .before .check-key-word .ensures .0), c .enum-told4 .given .1)
 
 returns-4 : tie.Need-returns-4
 unfolding checkHead require andThen

@@ -1,23 +1,22 @@
 -- `word::header::check_size_word` meets its contract. Assumes nothing.
 use borrow.Author.Needs.{needs}
+use Rattle.refusal.proofs.Laws.{also}
 use mathlib.Core.Path.{sym, _∙_}
 use borrow.Author.Tests.{eq-eqb, ne-eqb}
-use Rattle.refusal.specs.Verdicts.{require}
+use Rattle.refusal.specs.Verdicts.{require, reportOf}
 use Rattle.word.specs.Fields.{checkSizeWord}
 use Rattle.word.proofs.header.check_size_word.Statement.{statement}
 use Rattle.word.proofs.header.check_size_word.Tie as tie
 
 returns : tie.Need-returns
 unfolding checkSizeWord require
-returns c =
-    let s = c .before in
+returns c = also reportOf (let s = c .before in
     let h = s .before in
-    simp (sym (h .before .width-in .ensures), sym (h .height-in .ensures), sym (s .size-word .ensures), ne-eqb _ _ (c .if1 .taken))
+    simp (sym (h .before .width-in .ensures), sym (h .height-in .ensures), sym (s .size-word .ensures), ne-eqb _ _ (c .if1 .taken)))
 
 returns-2 : tie.Need-returns-2
 unfolding checkSizeWord require
-returns-2 c =
-    let b = c .before .before in
+returns-2 c = also reportOf (let b = c .before .before in
     let h = b .before .before in
     simp (
       sym (h .before .width-in .ensures),
@@ -25,12 +24,11 @@ returns-2 c =
       eq-eqb _ _ (b .if1 .left ∙ b .before .size-word .ensures),
       sym (c .before .size-fits .ensures),
       c .if2 .taken,
-    )
+    ))
 
 returns-3 : tie.Need-returns-3
 unfolding checkSizeWord require
-returns-3 c =
-    let b = c .before .before in
+returns-3 c = also reportOf (let b = c .before .before in
     let h = b .before .before in
     simp (
       sym (h .before .width-in .ensures),
@@ -38,7 +36,7 @@ returns-3 c =
       eq-eqb _ _ (b .if1 .left ∙ b .before .size-word .ensures),
       sym (c .before .size-fits .ensures),
       c .if2 .left,
-    )
+    ))
 
 pub check-size-word-spec : {M : Type 1} → statement M
 check-size-word-spec =
