@@ -7,6 +7,7 @@ ghost use Rattle.word.specs.Placing.{placed, firstRefusal};
 ghost use Rattle.word.specs.Fields.{decodeWord};
 ghost use Rattle.word.specs.loops.Kinds.{IsKinds};
 ghost use Rattle.channels.specs.loops.Holding.{QuartersHold, NoFault, HoldsKind, AllHold, BlockWithin};
+ghost use Rattle.refusal.specs.Verdicts.{reportOf};
 use number::channel::Decoded;
 use refusal::Verdict;
 use word::body::channel_word;
@@ -128,7 +129,8 @@ fn first_fault(start: u32, words: &[u32]) -> Verdict
 
 // The first refusal of channel words, the first of which is that of channel 0 and has the index `start`.
 pub fn check_channels(start: u32, words: &[u32]) -> Verdict
-    ensures { λ r. ⌜ r ≡ firstRefusal (placed decodeWord start 0 (now (words .entry))) ⌝ }
+    ensures verdict { λ r. ⌜ r ≡ firstRefusal (placed decodeWord start 0 (now (words .entry))) ⌝ }
+    ensures outcome { λ r. ⌜ reportOf r ≡ reportOf (firstRefusal (placed decodeWord start 0 (now (words .entry)))) ⌝ }
 {
     if all_hold(words) {
         return Verdict::Accepted;

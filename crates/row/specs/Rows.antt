@@ -1,9 +1,11 @@
 -- One row of a strip. Assumes nothing.
 use Prim.Native.Nat.{ℕ, _+_, _*_}
-use mathlib.Core.List.{List}
+use mathlib.Core.List.{List, [], _∷_}
+use lib.IntN.{pos}
 use lib.ListN.{take, drop}
 use Rattle.refusal.specs.declared.Verdict.{Verdict}
 use Rattle.refusal.specs.declared.Verdict.the-variants.{Accepted, Refused}
+use Rattle.refusal.specs.Told.{Told, holding, refusing}
 use Rattle.word.specs.Words.{bodyStart}
 use Rattle.strip.specs.Checks.{headerFields, checkRow}
 use Rattle.row.specs.declared.Part.{Part}
@@ -25,6 +27,11 @@ rowPart s y = record { start = bodyStart (headerFields s) + 3 * (headerFields s 
 abbrev pub rowUnder : Verdict → Part → RowOrRefusal
 rowUnder Accepted p = Holds p
 rowUnder (Refused r i) p = Refuses r i
+
+-- in numbers: start and count in words, or the refusal
+abbrev pub rowTold : RowOrRefusal → Told
+rowTold (Holds p) = holding (pos (p .start) ∷ pos (p .count) ∷ [])
+rowTold (Refuses r i) = refusing r i
 
 -- where row y stands; of a refused row its refusal
 abbrev pub findRow : List ℕ → (y : ℕ) → RowOrRefusal

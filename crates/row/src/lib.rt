@@ -1,6 +1,6 @@
 // One row of a strip: where it stands, and the row handed back as that part of the strip.
 ghost use mathlib.Core.Path.{_≡_};
-ghost use Rattle.row.specs.Rows.{findRow, rowOf, wordsOf, pointerTo};
+ghost use Rattle.row.specs.Rows.{findRow, rowOf, wordsOf, pointerTo, rowTold};
 use refusal::Refusal;
 use refusal::Verdict;
 use strip::check::check_row;
@@ -21,7 +21,8 @@ pub enum RowOrRefusal {
 
 // Where row y stands, from the red word of its first pixel to the blue word of its last.
 pub fn find_row(strip: &[u32], y: usize) -> RowOrRefusal
-    ensures { λ r. ⌜ r ≡ findRow (now (strip .entry)) y ⌝ }
+    ensures answer { λ r. ⌜ r ≡ findRow (now (strip .entry)) y ⌝ }
+    ensures told { λ r. ⌜ rowTold r ≡ rowTold (findRow (now (strip .entry)) y) ⌝ }
 {
     let verdict = check_row(strip, y);
     match verdict {

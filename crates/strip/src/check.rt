@@ -3,7 +3,7 @@ ghost use mathlib.Core.Path.{_≡_};
 ghost use lib.Dec.{leb, ltb};
 ghost use Rattle.refusal.specs.declared.Refusal.{Refusal};
 ghost use Rattle.refusal.specs.declared.Verdict.{Verdict};
-ghost use Rattle.refusal.specs.Verdicts.{require};
+ghost use Rattle.refusal.specs.Verdicts.{require, reportOf};
 ghost use Rattle.strip.specs.Checks.{headerFields, channelCount, checkHead, checkBody, checkWith, checkStrip, checkOutput, checkRow};
 use crate::read::body;
 use crate::read::body_start;
@@ -59,7 +59,8 @@ fn check_body(strip: &[u32]) -> Verdict
 
 // The checks of a strip, with what a call adds between length and words.
 pub fn check_with(strip: &[u32], added: Verdict) -> Verdict
-    ensures { λ r. ⌜ r ≡ checkWith added (now (strip .entry)) ⌝ }
+    ensures verdict { λ r. ⌜ r ≡ checkWith added (now (strip .entry)) ⌝ }
+    ensures outcome { λ r. ⌜ reportOf r ≡ reportOf (checkWith added (now (strip .entry))) ⌝ }
 {
     let head = check_head(strip);
     let Verdict::Accepted = head else {
@@ -73,7 +74,8 @@ pub fn check_with(strip: &[u32], added: Verdict) -> Verdict
 
 // A whole strip.
 pub fn check(strip: &[u32]) -> Verdict
-    ensures { λ r. ⌜ r ≡ checkStrip (now (strip .entry)) ⌝ }
+    ensures verdict { λ r. ⌜ r ≡ checkStrip (now (strip .entry)) ⌝ }
+    ensures outcome { λ r. ⌜ reportOf r ≡ reportOf (checkStrip (now (strip .entry))) ⌝ }
 {
     check_with(strip, Verdict::Accepted)
 }
@@ -91,7 +93,8 @@ fn check_room(strip: &[u32], room: usize) -> Verdict
 
 // A strip whose channels go into an output of so many elements.
 pub fn check_output(strip: &[u32], room: usize) -> Verdict
-    ensures { λ r. ⌜ r ≡ checkOutput (now (strip .entry)) room ⌝ }
+    ensures verdict { λ r. ⌜ r ≡ checkOutput (now (strip .entry)) room ⌝ }
+    ensures outcome { λ r. ⌜ reportOf r ≡ reportOf (checkOutput (now (strip .entry)) room) ⌝ }
 {
     check_with(strip, check_room(strip, room))
 }
@@ -109,7 +112,8 @@ fn check_number(strip: &[u32], y: usize) -> Verdict
 
 // A strip of which row y is asked for.
 pub fn check_row(strip: &[u32], y: usize) -> Verdict
-    ensures { λ r. ⌜ r ≡ checkRow (now (strip .entry)) y ⌝ }
+    ensures verdict { λ r. ⌜ r ≡ checkRow (now (strip .entry)) y ⌝ }
+    ensures outcome { λ r. ⌜ reportOf r ≡ reportOf (checkRow (now (strip .entry)) y) ⌝ }
 {
     check_with(strip, check_number(strip, y))
 }

@@ -6,8 +6,9 @@ ghost use lib.ListN.{length};
 ghost use Rattle.word.specs.Fields.{low16};
 ghost use Rattle.word.specs.Words.{pixels, bodyStart, endIndex};
 ghost use Rattle.strip.specs.Checks.{wordAt, headerFields, declaredLength, bodyPart, checkOutput};
-ghost use Rattle.strip.specs.Reading.{readHeader, stripCodes};
+ghost use Rattle.strip.specs.Reading.{readHeader, stripCodes, headerTold};
 ghost use Rattle.refusal.specs.Output.{onto, after};
+ghost use Rattle.refusal.specs.Verdicts.{reportOf};
 use crate::check::check;
 use crate::check::check_output;
 use refusal::Refusal;
@@ -78,7 +79,8 @@ pub enum HeaderOrRefusal {
 
 // The header of a strip, or its refusal.
 pub fn header(strip: &[u32]) -> HeaderOrRefusal
-    ensures { λ r. ⌜ r ≡ readHeader (now (strip .entry)) ⌝ }
+    ensures answer { λ r. ⌜ r ≡ readHeader (now (strip .entry)) ⌝ }
+    ensures told { λ r. ⌜ headerTold r ≡ headerTold (readHeader (now (strip .entry))) ⌝ }
 {
     let verdict = check(strip);
     match verdict {
@@ -106,6 +108,7 @@ fn store_codes(words: &[u32], output: &mut [u16])
 // The channels of an accepted strip as 16-bit numbers, into the front of the output; a refusal leaves the output as it was.
 pub fn unpack(strip: &[u32], output: &mut [u16]) -> Verdict
     ensures verdict { λ r. ⌜ r ≡ checkOutput (now (strip .entry)) (length (now (output .entry))) ⌝ }
+    ensures outcome { λ r. ⌜ reportOf r ≡ reportOf (checkOutput (now (strip .entry)) (length (now (output .entry)))) ⌝ }
     ensures content { λ r. ⌜ now (output .exit) ≡ after r (stripCodes (now (strip .entry))) (now (output .entry)) ⌝ }
 {
     let verdict = check_output(strip, output.len());

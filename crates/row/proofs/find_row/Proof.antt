@@ -25,7 +25,7 @@ returns : tie.Need-returns
 returns c =
     let w = c .before in
     let b = w .before .before in
-    let v = sym (b .before .before .check-row .ensures) ∙ b .enum-told .given .1 in
+    let v = sym (b .before .before .check-row .ensures .0) ∙ b .enum-told .given .1 in
     simp (v, c .body-start .ensures, w .width-in .ensures)
 
 pub find-row-spec : {M : Type 1} → statement M
@@ -35,4 +35,4 @@ find-row-spec =
     (λ c κs. search needs) (λ c. search needs) (λ c. omega (arith, inside c .strip .head .long)) (λ c κs. search needs)
     (λ c. search needs) (λ c κs. search needs) (λ c. omega (arith, room c)) (λ c. omega (arith, room c))
     (λ c. omega (arith, room c)) (λ c. search needs) (λ c. search needs) returns
-    (λ c. simp (sym (c .before .before .before .check-row .ensures), c .before .verdict .given .1)))
+    (λ c. simp (sym (c .before .before .before .check-row .ensures .0), c .before .verdict .given .1)))

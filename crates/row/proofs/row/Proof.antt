@@ -15,14 +15,14 @@ use Rattle.row.proofs.row.Tie as tie
 returns : tie.Need-returns
 returns c =
     let b = c .before in
-    let v = sym (b .before .before .find-row .ensures) ∙ b .enum-told .given .1 in
+    let v = sym (b .before .before .find-row .ensures .0) ∙ b .enum-told .given .1 in
     (simp v, simp v (rw (zero-add (c .before .before .before .before .before .args .strip .ptr .1))))
 
 found : (c : tie.After-struct-known)
     → let f = c .before .before in
     let a = f .before .before .before .before .args in
     findRow (now (a .strip)) (a .y) ≡ Holds (f .found .given .0 .0)
-found c = let f = c .before .before in sym (f .before .before .find-row .ensures) ∙ f .found .given .1
+found c = let f = c .before .before in sym (f .before .before .find-row .ensures .0) ∙ f .found .given .1
 
 room : (c : tie.After-struct-known)
     → let f = c .before .before in

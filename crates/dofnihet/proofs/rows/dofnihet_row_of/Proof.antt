@@ -6,7 +6,7 @@ use Rattle.dofnihet.proofs.rows.dofnihet_row_of.Statement.{statement}
 use Rattle.dofnihet.proofs.rows.dofnihet_row_of.Tie as tie
 
 returns : tie.Need-returns
-returns c = c .row-answer .ensures ∙ ap rowAnswer (c .before .find-row .ensures)
+returns c = c .row-answer .ensures ∙ ap rowAnswer (c .before .find-row .ensures .0)
 
 pub dofnihet-row-of-spec : {M : Type 1} → statement M
 dofnihet-row-of-spec = tie.close (tie.spec (λ c κs. search needs) (λ c κs. search needs) returns)

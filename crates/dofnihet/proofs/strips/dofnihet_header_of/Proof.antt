@@ -6,7 +6,7 @@ use Rattle.dofnihet.proofs.strips.dofnihet_header_of.Statement.{stateme
 use Rattle.dofnihet.proofs.strips.dofnihet_header_of.Tie as tie
 
 returns : tie.Need-returns
-returns c = c .header-answer .ensures ∙ ap headerAnswer (c .before .header .ensures)
+returns c = c .header-answer .ensures ∙ ap headerAnswer (c .before .header .ensures .0)
 
 pub dofnihet-header-of-spec : {M : Type 1} → statement M
 dofnihet-header-of-spec = tie.close (tie.spec (λ c κs. search needs) (λ c κs. search needs) returns)

@@ -20,12 +20,12 @@ use Rattle.page.proofs.map.map.Statement.{statement}
 use Rattle.page.proofs.map.map.Tie as tie
 
 returns : tie.Need-returns
-returns c = left-alone _ _ (map-checked _ _ (c .before .before .check-output .ensures)) (c .enum-told2 .given .1)
+returns c = left-alone _ _ (map-checked _ _ (c .before .before .check-output .ensures .0)) (c .enum-told2 .given .1)
 
 -- what holds once the strip is accepted
 ok : (c : tie.After-enum-told)
     → let a = c .before .before .before .before .before .args in checkMap (now (a .strip)) (length (now (a .output))) ≡ Accepted
-ok c = sym (map-checked _ _ (c .before .before .check-output .ensures)) ∙ c .enum-told .given .1
+ok c = sym (map-checked _ _ (c .before .before .check-output .ensures .0)) ∙ c .enum-told .given .1
 
 limits : (c : tie.After-enum-told)
     → let a = c .before .before .before .before .before .args in Fits (now (a .strip)) (length (now (a .output)))

@@ -16,7 +16,7 @@ use Rattle.page.proofs.tally.tally.Tie as tie
 
 -- what holds once the strip is accepted
 ok : (c : tie.After-enum-told) → checkTally (now (c .before .before .before .before .args .strip)) ≡ Accepted
-ok c = sym (tally-checked _ (c .before .before .check .ensures)) ∙ c .enum-told .given .1
+ok c = sym (tally-checked _ (c .before .before .check .ensures .0)) ∙ c .enum-told .given .1
 
 strip : (c : tie.After-enum-told) → Whole (now (c .before .before .before .before .args .strip))
 strip c = tally-whole _ (ok c)
@@ -42,7 +42,7 @@ returns c =
 returns-2 : tie.Need-returns-2
 returns-2 c =
     let v = c .before in
-    bounded _ (refused _ (sym (tally-checked _ (v .before .before .check .ensures)) ∙ v .verdict .given .1))
+    bounded _ (refused _ (sym (tally-checked _ (v .before .before .check .ensures .0)) ∙ v .verdict .given .1))
 
 pub tally-spec : {M : Type 1} → statement M
 tally-spec =

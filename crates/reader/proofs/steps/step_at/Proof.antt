@@ -20,12 +20,12 @@ returns c = ap Pixel (c .pixel-in .ensures) ∙ sym (step-pixel _ _ (cc))
 returns-2 : tie.Need-returns-2
 returns-2 c =
     let d = c .before .before in
-    ap stepUnder (sym (c .enum-told .given .1) ∙ d .check .ensures) ∙ sym (step-checked _ _ (d .before .if2 .taken))
+    ap stepUnder (sym (c .enum-told .given .1) ∙ d .check .ensures .0) ∙ sym (step-checked _ _ (d .before .if2 .taken))
 
 returns-3 : tie.Need-returns-3
 returns-3 c =
     let d = c .before .before .before in
-    ap stepUnder (sym (c .before .refusal .given .1) ∙ d .check .ensures) ∙ sym (step-checked _ _ (d .before .if2 .taken))
+    ap stepUnder (sym (c .before .refusal .given .1) ∙ d .check .ensures .0) ∙ sym (step-checked _ _ (d .before .if2 .taken))
 
 returns-4 : tie.Need-returns-4
 returns-4 c = sym (step-over _ _ (cc) (c .if2 .left))

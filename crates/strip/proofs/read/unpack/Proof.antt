@@ -29,7 +29,7 @@ returns-2 c =
     let a = b .before .before .before .before .before .before .args in
     let stored = rw (b .body .ensures) at (o .store-codes .ensures) in
     let codes = codes-in (now (a .strip)) (limits (b .before) .strip .channels) in
-    (cc, stored ∙ ap (λ vs. onto vs (now (a .output))) (sym codes))
+    (cc, (cc, stored ∙ ap (λ vs. onto vs (now (a .output))) (sym codes)))
 
 pub unpack-spec : {M : Type 1} → statement M
 unpack-spec =
