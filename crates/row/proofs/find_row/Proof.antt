@@ -5,6 +5,8 @@ use mathlib.Core.Path.{sym, _∙_}
 use native.Mathlib.Omega.{arith}
 use lib.ListN.{length}
 use denote.Ref.{now}
+use Rattle.refusal.proofs.Laws.{also}
+use Rattle.row.specs.Rows.{rowTold}
 use Rattle.strip.proofs.Limits.{Inside, row-limits}
 use Rattle.row.proofs.find_row.Statement.{statement}
 use Rattle.row.proofs.find_row.Tie as tie
@@ -22,11 +24,10 @@ room c =
     rw (c .body-start .ensures, c .before .width-in .ensures) (omega (arith, q .inside, q .strip .head .long))
 
 returns : tie.Need-returns
-returns c =
-    let w = c .before in
+returns c = also rowTold (let w = c .before in
     let b = w .before .before in
     let v = sym (b .before .before .check-row .ensures .0) ∙ b .enum-told .given .1 in
-    simp (v, c .body-start .ensures, w .width-in .ensures)
+    simp (v, c .body-start .ensures, w .width-in .ensures))
 
 pub find-row-spec : {M : Type 1} → statement M
 find-row-spec =
@@ -35,4 +36,4 @@ find-row-spec =
     (λ c κs. search needs) (λ c. search needs) (λ c. omega (arith, inside c .strip .head .long)) (λ c κs. search needs)
     (λ c. search needs) (λ c κs. search needs) (λ c. omega (arith, room c)) (λ c. omega (arith, room c))
     (λ c. omega (arith, room c)) (λ c. search needs) (λ c. search needs) returns
-    (λ c. simp (sym (c .before .before .before .check-row .ensures .0), c .before .verdict .given .1)))
+    (λ c. also rowTold (simp (sym (c .before .before .before .check-row .ensures .0), c .before .verdict .given .1))))
