@@ -1,6 +1,6 @@
 -- What an accepted source keeps to, its verdict in two parts, and the stores that make a strip. Assumes nothing.
 use Prim.Native.Nat.{ℕ, suc, _+_, _-_, _*_, _<_, _≤_}
-use mathlib.Core.Path.{_≡_, sym, _∙_}
+use mathlib.Core.Path.{_≡_, sym, ap, _∙_}
 use mathlib.Core.List.{List, [], _∷_, _++_, append-assoc}
 use mathlib.Core.Bool.{true}
 use native.Mathlib.Omega.{arith}
@@ -12,7 +12,7 @@ use Rattle.number.specs.declared.channel.Channel.{Channel}
 use Rattle.refusal.specs.declared.Refusal.{Refusal}
 use Rattle.refusal.specs.declared.Verdict.{Verdict}
 use Rattle.refusal.specs.declared.Verdict.the-variants.{Accepted, Refused}
-use Rattle.refusal.specs.Verdicts.{andThen}
+use Rattle.refusal.specs.Verdicts.{reportOf, andThen}
 use Rattle.refusal.proofs.Laws.{require-passed}
 use Rattle.word.specs.declared.header.Header.{Header}
 use Rattle.word.specs.Words.{pixels, sizeFits, keyFits, headWords, bodyWords, endWord, bodyStart, endIndex, stripLength, stripOf}
@@ -84,17 +84,21 @@ framed h cs t n fits =
 
 module _ (f : Format) (h : Header) (xs t : List ℕ) where
   abbrev Result : Verdict → List ℕ → Type 0
-  Result v u = (v ≡ checkSource f h xs (length t)) × (u ≡ after v (converted f h xs) t)
+  Result v u =
+      (v ≡ checkSource f h xs (length t)) × ((reportOf v ≡ reportOf (checkSource f h xs (length t))) × (u ≡ after v (converted f h xs) t))
+
+  result : {v : Verdict} {u : List ℕ} → v ≡ checkSource f h xs (length t) → u ≡ after v (converted f h xs) t → Result v u
+  result e c = (e, (ap reportOf e, c))
 
   module _ {p : Verdict} (e : p ≡ checkFrame h (perPixel f) (length xs) (length t)) where
     pub page-refused : {r : Refusal} {i : ℕ} → p ≡ Refused r i → Result p t
     unfolding checkSource andThen
-    page-refused told = (simp (sym e, told), simp told)
+    page-refused told = result (simp (sym e, told)) (simp told)
 
     module _ (ok : p ≡ Accepted) {v : Verdict} (g : v ≡ firstRefusal (decodedSource f xs)) where
       pub element-refused : {r : Refusal} {i : ℕ} → v ≡ Refused r i → Result v t
       unfolding checkSource andThen
-      element-refused told = (simp (sym e, ok) g, simp told)
+      element-refused told = result (simp (sym e, ok) g) (simp told)
 
       pub accepted : {start end : ℕ} {ws u : List ℕ} → v ≡ Accepted → start ≡ bodyStart h → end ≡ endIndex h
           → ws ≡ bodyWords 0 (channelsOf (decodedSource f xs)) → u ≡ withFrame h (putMid start (end - start) t ws)
@@ -103,4 +107,4 @@ module _ (f : Format) (h : Header) (xs t : List ℕ) where
       accepted told first last words stores =
           let q = page h _ _ _ (sym e ∙ ok) in
           let made = framed h (channelsOf (decodedSource f xs)) t (channel-count f _ xs (q .long)) (q .fits) in
-          (simp (sym e, ok) (sym told ∙ g), stores ∙ rw (first, last, words) made)
+          result (simp (sym e, ok) (sym told ∙ g)) (stores ∙ rw (first, last, words) made)

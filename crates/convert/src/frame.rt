@@ -7,6 +7,7 @@ ghost use Rattle.number.specs.Channels.{codeOf, channelIn};
 ghost use Rattle.word.specs.Words.{sizeFits, keyFits, channelWord, bodyStart, endIndex, stripLength};
 ghost use Rattle.convert.specs.Converting.{checkFrame};
 ghost use Rattle.convert.specs.loops.Stores.{withFrame};
+ghost use Rattle.refusal.specs.Verdicts.{reportOf};
 use number::channel::Decoded;
 use number::channel::decoded_code;
 use refusal::Refusal;
@@ -38,7 +39,8 @@ pub fn body_end(header: Header) -> usize
 
 // The checks of a source of so many elements, and an output of so many words.
 pub fn check_frame(header: Header, per: u8, count: usize, room: usize) -> Verdict
-    ensures { λ r. ⌜ r ≡ checkFrame header per count room ⌝ }
+    ensures verdict { λ r. ⌜ r ≡ checkFrame header per count room ⌝ }
+    ensures outcome { λ r. ⌜ reportOf r ≡ reportOf (checkFrame header per count room) ⌝ }
 {
     let width = header.width;
     let height = header.height;

@@ -8,6 +8,7 @@ ghost use Rattle.refusal.specs.Output.{after};
 ghost use Rattle.convert.specs.Formats.{rgbe, rgbePixel, decodedSource};
 ghost use Rattle.convert.specs.loops.Stores.{rgbeWord};
 ghost use Rattle.convert.specs.Converting.{checkSource, converted};
+ghost use Rattle.refusal.specs.Verdicts.{reportOf};
 use crate::frame::body_end;
 use crate::frame::body_start;
 use crate::frame::check_frame;
@@ -92,6 +93,7 @@ fn store_rgbe(source: &[u8], body: &mut [u32])
 // A picture of RGBE pixels, four bytes each, into the strip of a page; a refusal leaves the output as it was.
 pub fn convert_rgbe(source: &[u8], header: Header, output: &mut [u32]) -> Verdict
     ensures verdict { λ r. ⌜ r ≡ checkSource rgbe header (now (source .entry)) (length (now (output .entry))) ⌝ }
+    ensures outcome { λ r. ⌜ reportOf r ≡ reportOf (checkSource rgbe header (now (source .entry)) (length (now (output .entry)))) ⌝ }
     ensures content { λ r. ⌜ now (output .exit) ≡ after r (converted rgbe header (now (source .entry))) (now (output .entry)) ⌝ }
 {
     let page = check_frame(header, 4, source.len(), output.len());

@@ -6,6 +6,7 @@ ghost use Rattle.word.specs.Placing.{firstRefusal, channelsOf};
 ghost use Rattle.refusal.specs.Output.{after};
 ghost use Rattle.convert.specs.Formats.{single, decodedSource};
 ghost use Rattle.convert.specs.Converting.{checkSource, converted};
+ghost use Rattle.refusal.specs.Verdicts.{reportOf};
 use crate::frame::body_end;
 use crate::frame::body_start;
 use crate::frame::check_frame;
@@ -47,6 +48,7 @@ fn store_single(source: &[u32], body: &mut [u32])
 // A picture of single floats, 32 bits each, into the strip of a page; a refusal leaves the output as it was.
 pub fn convert_single(source: &[u32], header: Header, output: &mut [u32]) -> Verdict
     ensures verdict { λ r. ⌜ r ≡ checkSource single header (now (source .entry)) (length (now (output .entry))) ⌝ }
+    ensures outcome { λ r. ⌜ reportOf r ≡ reportOf (checkSource single header (now (source .entry)) (length (now (output .entry)))) ⌝ }
     ensures content { λ r. ⌜ now (output .exit) ≡ after r (converted single header (now (source .entry))) (now (output .entry)) ⌝ }
 {
     let page = check_frame(header, 3, source.len(), output.len());

@@ -6,6 +6,7 @@ ghost use Rattle.word.specs.Placing.{firstRefusal, channelsOf};
 ghost use Rattle.refusal.specs.Output.{after};
 ghost use Rattle.convert.specs.Formats.{stored, decodedSource};
 ghost use Rattle.convert.specs.Converting.{checkSource, converted};
+ghost use Rattle.refusal.specs.Verdicts.{reportOf};
 use crate::frame::body_end;
 use crate::frame::body_start;
 use crate::frame::check_frame;
@@ -47,6 +48,7 @@ fn store_stored(source: &[u16], body: &mut [u32])
 // A row of stored channels, 16 bits each, into the strip of a page; a refusal leaves the output as it was.
 pub fn convert_stored(source: &[u16], header: Header, output: &mut [u32]) -> Verdict
     ensures verdict { λ r. ⌜ r ≡ checkSource stored header (now (source .entry)) (length (now (output .entry))) ⌝ }
+    ensures outcome { λ r. ⌜ reportOf r ≡ reportOf (checkSource stored header (now (source .entry)) (length (now (output .entry)))) ⌝ }
     ensures content { λ r. ⌜ now (output .exit) ≡ after r (converted stored header (now (source .entry))) (now (output .entry)) ⌝ }
 {
     let page = check_frame(header, 3, source.len(), output.len());

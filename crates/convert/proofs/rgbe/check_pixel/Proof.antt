@@ -18,10 +18,10 @@ returns-2 c =
     let g = c .before .before .before in
     let r = g .before in
     simp (
-      c .verdict-at2 .ensures,
+      c .verdict-at2 .ensures .0,
       sym (r .before .before .rgbe-to-channel .ensures .0),
       r .enum-told .given .1,
-      sym (g .rgbe-to-channel2 .ensures),
+      sym (g .rgbe-to-channel2 .ensures .0),
       c .before .enum-told4 .given .1,
     )
 
@@ -32,12 +32,12 @@ returns-3 c =
     let g = b .before in
     let r = g .before .before .before in
     simp (
-      c .verdict-at3 .ensures,
+      c .verdict-at3 .ensures .0,
       sym (r .before .before .rgbe-to-channel .ensures .0),
       r .enum-told .given .1,
-      sym (g .before .before .rgbe-to-channel2 .ensures),
+      sym (g .before .before .rgbe-to-channel2 .ensures .0),
       g .enum-told3 .given .1,
-      sym (b .rgbe-to-channel3 .ensures),
+      sym (b .rgbe-to-channel3 .ensures .0),
       and-last,
     )
 

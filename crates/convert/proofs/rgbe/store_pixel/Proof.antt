@@ -13,9 +13,9 @@ returns c =
     let r = d .before in
     rw (
       c .decoded-word3 .ensures,
-      b .rgbe-to-channel3 .ensures,
+      b .rgbe-to-channel3 .ensures .0,
       g .decoded-word2 .ensures,
-      d .rgbe-to-channel2 .ensures,
+      d .rgbe-to-channel2 .ensures .0,
       r .decoded-word .ensures,
       r .before .rgbe-to-channel .ensures .0,
     )
