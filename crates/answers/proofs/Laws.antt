@@ -25,7 +25,7 @@ use Rattle.average.specs.declared.average.Average.the-variants.{Absent, Present
 use Rattle.page.specs.declared.tally.TallyOrRefusal.{TallyOrRefusal}
 use Rattle.page.specs.declared.tally.TallyOrRefusal.the-variants.{Holds, Refuses}
 use Rattle.page.specs.Claims.{TallyPromise, MapPromise}
-use Rattle.page.specs.Tallying.{tallyStrip}
+use Rattle.page.specs.Tallying.{tallyTold, tallyStrip}
 use Rattle.answers.specs.declared.tallies.TallyAnswer.{TallyAnswer}
 use Rattle.answers.specs.Answers.{tallyAnswer, Reports}
 use Rattle.answers.specs.Claims.{TallyBound, MapBound}
@@ -60,8 +60,9 @@ bounded s (Refuses r i) p =
     }
 
 pub answered : (s : List ℕ) (a : TallyOrRefusal) (r : TallyAnswer) → r ≡ tallyAnswer a
-    → (a ≡ tallyStrip s) × TallyPromise s a → (r ≡ tallyAnswer (tallyStrip s)) × TallyBound s r
-answered s a r q p = (q ∙ ap tallyAnswer (p .0), subst (TallyBound s) (sym q) (bounded s a (p .1)))
+    → (a ≡ tallyStrip s) × ((tallyTold a ≡ tallyTold (tallyStrip s)) × TallyPromise s a)
+    → (r ≡ tallyAnswer (tallyStrip s)) × TallyBound s r
+answered s a r q p = (q ∙ ap tallyAnswer (p .0), subst (TallyBound s) (sym q) (bounded s a (p .1 .1)))
 
 -- mapping's promise
 pub map-bounded : (s : List ℕ) (v : Verdict) (r : Outcome) (bytes : List ℕ) → r ≡ reportOf v → MapPromise s v bytes → MapBound s r bytes

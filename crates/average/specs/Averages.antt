@@ -1,9 +1,11 @@
 -- Steps 2 and 3: the steps of a luminance, their average and the stored average. Assumes nothing.
 use mathlib.Core.Bool.{cond}
+use mathlib.Core.List.{List, [], _∷_}
 use Prim.Native.Nat.{ℕ, _+_, _-_, _*_, _/_, _%_, _≤_}
 use lib.Dec.{eqb}
 use lib.IntN.{ℤ, pos, negsuc, negℤ, subℕ, natAbs, _+ℤ_}
 use lib.Signed.{_≤ℤ_}
+use Rattle.refusal.specs.Told.{Told, holding}
 use Rattle.number.proofs.Laws.{IsMantissa}
 use Rattle.number.specs.declared.ratio.Stored.{Stored}
 use Rattle.average.specs.Tables.{logOf, rootOf}
@@ -36,6 +38,14 @@ storedAverage A =
 -- as absent".
 unfoldable pub averageOf : (count : ℕ) (sum : ℤ) → Average
 averageOf count sum = cond (eqb count 0) Absent (Present (floorDiv sum count) (storedAverage (floorDiv sum count)))
+
+-- in numbers: whether there is an average, and then A, E and M
+abbrev pub averageValues : Average → List ℤ
+averageValues Absent = pos 0 ∷ []
+averageValues (Present A a) = pos 1 ∷ A ∷ pos (a .exponent) ∷ pos (a .mantissa) ∷ []
+
+abbrev pub averageTold : Average → Told
+averageTold a = holding (averageValues a)
 
 -- the averages that there are: a luminance has from −15,630 to 14,335 steps
 pub record IsAverage (A : ℤ) : Type 0 where

@@ -2,7 +2,7 @@
 ghost use mathlib.Core.Path.{_≡_};
 ghost use lib.IntN.{pos, natAbs, _+ℤ_};
 ghost use lib.Signed.{_≤ℤ_};
-ghost use Rattle.average.specs.Averages.{storedAverage, averageOf, IsAverage};
+ghost use Rattle.average.specs.Averages.{storedAverage, averageOf, IsAverage, averageTold};
 ghost use Rattle.average.specs.loops.Sums.{HasAverage};
 use crate::floor::floor_div;
 use crate::floor::floor_mod;
@@ -45,7 +45,8 @@ fn stored_average(steps: i64) -> Stored
 // The average of `count` luminances whose steps add up to `sum`.
 pub fn average_of(count: u64, sum: i64) -> Average
     requires { ⌜ HasAverage count sum ⌝ }
-    ensures { λ r. ⌜ r ≡ averageOf count sum ⌝ }
+    ensures answer { λ r. ⌜ r ≡ averageOf count sum ⌝ }
+    ensures told { λ r. ⌜ averageTold r ≡ averageTold (averageOf count sum) ⌝ }
 {
     if count == 0 {
         return Average::Absent;

@@ -1,6 +1,6 @@
 -- Demand 3 of a page, and the promises of the two calls. Assumes nothing.
 use Prim.Native.Nat.{ℕ, _<_}
-use mathlib.Core.Path.{_≡_, refl, sym, subst, _∙_}
+use mathlib.Core.Path.{_≡_, refl, sym, ap, subst, _∙_}
 use mathlib.Core.List.{List, [], _∷_, _++_, flatMap}
 use mathlib.Core.Logic.{inl, inr}
 use native.Mathlib.Omega.{arith}
@@ -12,6 +12,7 @@ use Rattle.number.proofs.Laws.{Every}
 use Rattle.refusal.specs.declared.Refusal.{Refusal}
 use Rattle.refusal.specs.declared.Verdict.{Verdict}
 use Rattle.refusal.specs.declared.Verdict.the-variants.{Accepted, Refused}
+use Rattle.refusal.specs.Verdicts.{reportOf}
 use Rattle.strip.specs.Checks.{headerFields}
 use Rattle.refusal.specs.Output.{onto, after}
 use Rattle.strip.specs.Reading.{stripPixels}
@@ -27,7 +28,7 @@ use Rattle.average.specs.Tallies.{tallyOf}
 use Rattle.tone.proofs.Laws.{level-bound}
 use Rattle.page.specs.declared.tally.TallyOrRefusal.{TallyOrRefusal}
 use Rattle.page.specs.declared.tally.TallyOrRefusal.the-variants.{Holds, Refuses}
-use Rattle.page.specs.Tallying.{stripLuminances, stripAverage, tallyUnder, tallyStrip}
+use Rattle.page.specs.Tallying.{stripLuminances, stripAverage, tallyUnder, tallyTold, tallyStrip}
 use Rattle.body.specs.Luminances.{litCount}
 use Rattle.body.specs.Levels.{levelsUnder}
 use Rattle.body.proofs.Laws.{storedLuminance, lit-luminance, lit-count, every-luminance}
@@ -105,22 +106,25 @@ tally-bound s = by (checkTally s) refl
         (lit-count (stripPixels s), where-lit s (tally-whole s e) (MeanHalf (stripPixels s)) (λ A q. mean-half s (tally-whole s e) q))
     by (Refused r i) e = tt
 
-pub bounded : (s : List ℕ) {r : TallyOrRefusal} → r ≡ tallyStrip s → (r ≡ tallyStrip s) × TallyPromise s r
-bounded s e = (e, subst (TallyPromise s) (sym e) (tally-bound s))
+pub bounded : (s : List ℕ) {r : TallyOrRefusal} → r ≡ tallyStrip s
+    → (r ≡ tallyStrip s) × ((tallyTold r ≡ tallyTold (tallyStrip s)) × TallyPromise s r)
+bounded s e = (e, (ap tallyTold e, subst (TallyPromise s) (sym e) (tally-bound s)))
 
 map-bound : (s output : List ℕ) → checkTally s ≡ Accepted → MapPromise s Accepted (onto (stripLevels s) output)
 map-bound s output e = where-lit s (tally-whole s e) _ (λ A q. level-half s (tally-whole s e) output q)
 
 -- the promise of mapping
 abbrev Mapped : (s old : List ℕ) → Verdict → (new : List ℕ) → Type 0
-Mapped s old v new = (v ≡ checkMap s (length old)) × ((new ≡ after v (stripLevels s) old) × MapPromise s v new)
+Mapped s old v new =
+    (v ≡ checkMap s (length old))
+    × ((reportOf v ≡ reportOf (checkMap s (length old))) × ((new ≡ after v (stripLevels s) old) × MapPromise s v new))
 
 pub left-alone : (s old : List ℕ) {v : Verdict} {r : Refusal} {i : ℕ} → v ≡ checkMap s (length old) → v ≡ Refused r i
     → Mapped s old v old
-left-alone s old e f = (e, (rw f, rw f tt))
+left-alone s old e f = (e, (ap reportOf e, (rw f, rw f tt)))
 
 pub filled : (s old new : List ℕ) → Accepted ≡ checkMap s (length old) → new ≡ onto (stripLevels s) old → Mapped s old Accepted new
-filled s old new e f = (e, (f, rw f (map-bound s old (map-tally s (length old) (sym e)))))
+filled s old new e f = (e, (ap reportOf e, (f, rw f (map-bound s old (map-tally s (length old) (sym e))))))
 
 -- ---- both together
 

@@ -7,6 +7,7 @@ ghost use Rattle.strip.specs.Checks.{headerFields};
 ghost use Rattle.page.specs.Checks.{checkMap};
 ghost use Rattle.page.specs.Mapping.{toneOf, stripLevels};
 ghost use Rattle.page.specs.Claims.{MapPromise};
+ghost use Rattle.refusal.specs.Verdicts.{reportOf};
 use average::average::Average;
 use average::average::average_of;
 use body::levels::map_levels;
@@ -45,6 +46,7 @@ fn clear_levels(count: usize, output: &mut [u8])
 // Three level bytes a pixel, into the front of the output; a refusal leaves the output as it was.
 pub fn map(strip: &[u32], output: &mut [u8]) -> Verdict
     ensures verdict { λ r. ⌜ r ≡ checkMap (now (strip .entry)) (length (now (output .entry))) ⌝ }
+    ensures outcome { λ r. ⌜ reportOf r ≡ reportOf (checkMap (now (strip .entry)) (length (now (output .entry)))) ⌝ }
     ensures content { λ r. ⌜ now (output .exit) ≡ after r (stripLevels (now (strip .entry))) (now (output .entry)) ⌝ }
     ensures bound { λ r. ⌜ MapPromise (now (strip .entry)) r (now (output .exit)) ⌝ }
 {

@@ -1,6 +1,6 @@
 // The tally of a page.
 ghost use mathlib.Core.Path.{_≡_};
-ghost use Rattle.page.specs.Tallying.{tallyStrip};
+ghost use Rattle.page.specs.Tallying.{tallyStrip, tallyTold};
 ghost use Rattle.page.specs.Claims.{TallyPromise};
 use average::average::Average;
 use average::average::average_of;
@@ -20,6 +20,7 @@ pub enum TallyOrRefusal {
 // The number of lit pixels of a strip, the sum of their steps and the average, or the strip's refusal.
 pub fn tally(strip: &[u32]) -> TallyOrRefusal
     ensures answer { λ r. ⌜ r ≡ tallyStrip (now (strip .entry)) ⌝ }
+    ensures told { λ r. ⌜ tallyTold r ≡ tallyTold (tallyStrip (now (strip .entry))) ⌝ }
     ensures bound { λ r. ⌜ TallyPromise (now (strip .entry)) r ⌝ }
 {
     let verdict = check(strip);

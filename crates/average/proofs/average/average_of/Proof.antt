@@ -5,7 +5,8 @@ use mir.Val.{toZ, ofZ}
 use mir.Facts.{toZ-ofZ}
 use borrow.Author.Needs.{needs, sfits-of}
 use borrow.Author.Tests.{ne-eqb}
-use Rattle.average.specs.Averages.{floorDiv, averageOf}
+use Rattle.refusal.proofs.Laws.{also}
+use Rattle.average.specs.Averages.{floorDiv, averageOf, averageTold}
 use Rattle.average.proofs.average.average_of.Statement.{statement}
 use Rattle.average.proofs.average.average_of.Tie as tie
 
@@ -17,14 +18,14 @@ got c =
 
 returns : tie.Need-returns
 unfolding averageOf
-returns c = rw (c .if1 .taken)
+returns c = also averageTold (rw (c .if1 .taken))
 
 stored-average-requires : tie.Need-stored-average-requires
 stored-average-requires c κs = rw (got c) (c .before .before .pre .in-range (search needs))
 
 returns-2 : tie.Need-returns-2
 unfolding averageOf
-returns-2 c = rw (ne-eqb _ 0 (c .before .before .if1 .left), c .stored-average .ensures, got (c .before))
+returns-2 c = also averageTold (rw (ne-eqb _ 0 (c .before .before .if1 .left), c .stored-average .ensures, got (c .before)))
 
 pub average-of-spec : {M : Type 1} → statement M
 average-of-spec = tie.close (tie.spec returns (λ c κs. search needs) stored-average-requires returns-2)

@@ -8,7 +8,7 @@ returns : tie.Need-returns
 returns c =
     let m = c .before .before .before .map in
     let v = m .ensures in
-    (reported (c .report .ensures) (v .0) (v .1 .0), map-bounded _ (m .result) _ _ (c .report .ensures) (v .1 .1))
+    (reported (c .report .ensures) (v .0) (v .1 .1 .0), map-bounded _ (m .result) _ _ (c .report .ensures) (v .1 .1 .1))
 
 pub dofnihet-map-spec : {M : Type 1} → statement M
 dofnihet-map-spec = tie.close (tie.spec (λ c κs. search needs) (λ c κs. search needs) (λ c. search needs) returns)

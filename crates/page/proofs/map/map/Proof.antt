@@ -56,7 +56,7 @@ average : (c : tie.After-average-of)
     ≡ stripAverage (now (c .before .before .before .before .before .before .before .before .before .before .before .before .args .strip))
 average c =
     let t = c .before .before .before .before in
-    average-is _ (limits (t .before .before .before) .strip) _ (told t .0) (c .average-of .ensures)
+    average-is _ (limits (t .before .before .before) .strip) _ (told t .0) (c .average-of .ensures .0)
 
 clear-levels-requires : tie.Need-clear-levels-requires
 clear-levels-requires c κs =

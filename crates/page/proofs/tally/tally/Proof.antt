@@ -37,7 +37,7 @@ returns : tie.Need-returns
 returns c =
     let t = c .before .before in
     let e = t .before .before in
-    bounded _ (answered _ (ok e) (told t) (average-is _ (strip e) _ (told t) (c .average-of .ensures)))
+    bounded _ (answered _ (ok e) (told t) (average-is _ (strip e) _ (told t) (c .average-of .ensures .0)))
 
 returns-2 : tie.Need-returns-2
 returns-2 c =
