@@ -3,7 +3,8 @@ use borrow.Author.Needs.{needs}
 use mathlib.Core.Path.{_≡_, sym, ap, _∙_}
 use mir.Syntax.{w64}
 use mir.Val.{toZ, ofZ}
-use Rattle.answers.specs.Answers.{acceptedTally, tallyAnswer}
+use Rattle.page.specs.declared.tally.TallyOrRefusal.the-variants.{Holds}
+use Rattle.answers.specs.Answers.{tallyAnswer}
 use Rattle.answers.proofs.tallies.tally_answer.Statement.{statement}
 use Rattle.answers.proofs.tallies.tally_answer.Tie as tie
 
@@ -12,7 +13,7 @@ returns c =
     let t = c .before .before .before .before in
     let tally = t .answer .given .0 .0 in
     let held : toZ w64 (ofZ w64 (tally .sum)) ≡ tally .sum = search needs in
-    let absent = ap (acceptedTally tally) (sym (c .before .enum-told .given .1)) in
+    let absent = ap (λ a. tallyAnswer (Holds tally a)) (sym (c .before .enum-told .given .1)) in
     rw held (absent ∙ ap tallyAnswer (sym (t .answer .given .1)))
 
 returns-2 : tie.Need-returns-2
@@ -23,7 +24,7 @@ returns-2 c =
     let steps = v .average .given .0 .0 in
     let held : toZ w64 (ofZ w64 (tally .sum)) ≡ tally .sum = search needs in
     let held′ : toZ w64 (ofZ w64 steps) ≡ steps = search needs in
-    let present = ap (acceptedTally tally) (sym (v .average .given .1)) in
+    let present = ap (λ a. tallyAnswer (Holds tally a)) (sym (v .average .given .1)) in
     rw (held, held′) (present ∙ ap tallyAnswer (sym (t .answer .given .1)))
 
 returns-3 : tie.Need-returns-3
