@@ -4,7 +4,7 @@ use Prim.Native.Nat.{ℕ}
 use mathlib.Core.Path.{_≡_}
 use mathlib.Core.List.{List, [], _∷_, map}
 use lib.IntN.{ℤ, pos, negℤ}
-use lib.ListN.{length, replicate}
+use lib.ListN.{length, getD, replicate}
 use Rattle.number.specs.declared.channel.Channel.the-variants.{Black, Lit}
 use Rattle.number.specs.declared.channel.Decoded.{Decoded}
 use Rattle.number.specs.Sources.{channelOfValue, halfValue, singleValue, rgbeValue}
@@ -19,10 +19,11 @@ use Rattle.average.specs.declared.average.Average.the-variants.{Present}
 use Rattle.average.specs.Tables.{logOf, rootOf}
 use Rattle.page.specs.declared.tally.TallyOrRefusal.{TallyOrRefusal}
 use Rattle.page.specs.Checks.{checkMap}
-use Rattle.page.specs.Tallying.{tallyStrip}
+use Rattle.page.specs.Tallying.{tallyTold, tallyStrip}
 use Rattle.page.specs.Mapping.{stripLevels}
 
--- a number of a source; the entry T[M], and X[f]; a page of one row of grey pixels, each given as a half
+-- a number of a source; the entry T[M], and X[f]; a page of one row of grey pixels, each given as a half; such a page, of which only the
+-- average is asked
 pub data Input : Type 0 where
   half : (bits : ℕ) → Input
   rgbe : (m e : ℕ) → Input
@@ -30,14 +31,16 @@ pub data Input : Type 0 where
   log : (M : ℕ) → Input
   root : (f : ℕ) → Input
   greys : (key : ℕ) (halves : List ℕ) → Input
+  averaged : (key : ℕ) (halves : List ℕ) → Input
 
--- a channel, or the number of a refusal; an entry; a page's strip, its A with the stored average, and its level bytes
+-- a channel, or the number of a refusal; an entry; a page's strip, its A with the stored average, and its level bytes; its A alone
 pub data Answer : Type 0 where
   black : Answer
   lit : (E M : ℕ) → Answer
   refused : (number : ℕ) → Answer
   entry : (n : ℕ) → Answer
   mapped : (strip : List ℕ) → Average → (levels : List ℕ) → Answer
+  steps : (A : ℤ) → Answer
 
 -- ---- what the definitions answer
 
@@ -58,6 +61,10 @@ abbrev pub pageAnswer : (strip : List ℕ) → TallyOrRefusal → Answer
 pageAnswer s (TallyOrRefusal.Holds t a) = mapped s a (levelsLeft s)
 pageAnswer s (TallyOrRefusal.Refuses r i) = refusedBy r
 
+-- A is the tally's fourth number
+abbrev pub stepsAnswer : TallyOrRefusal → Answer
+stepsAnswer a = steps (getD (tallyTold a .values) 3 (pos 0))
+
 -- each half three times
 abbrev pub greySource : (halves : List ℕ) → List ℕ
 greySource [] = []
@@ -73,6 +80,7 @@ answerOf (single b) = channelAnswer (channelOfValue (singleValue b))
 answerOf (log M) = entry (logOf M)
 answerOf (root f) = entry (rootOf f)
 answerOf (greys K bs) = let s = greyStrip K bs in pageAnswer s (tallyStrip s)
+answerOf (averaged K bs) = stepsAnswer (tallyStrip (greyStrip K bs))
 
 -- ---- what document 01 answers
 
@@ -110,9 +118,11 @@ table =
     log 192 gives entry 1942 ∷
     log 255 gives entry 2047 ∷
     root 128 gives entry 181 ∷
-    -- "▲ Greys 1.0 and 0.5: A = −129, average (128,180), levels 52 and 29.", under the "K 180" of document 01's line before it; their
-    -- strip is the picture program's input: "10008001 200000B4 400080FF 500080FF 600080FF 40007FFF 50007FFF 60007FFF 70000002"
+    -- "▲ Greys 1.0 and 0.5: A = −129, average (128,180), levels 52 and 29. Greys 1.0, 1.0, 0.5: A = −87", under the "K 180" of
+    -- document 01's line before it; the strip of the two is the picture program's input: "10008001 200000B4 400080FF 500080FF 600080FF
+    -- 40007FFF 50007FFF 60007FFF 70000002"
     greys 180 (0x3C00 ∷ 0x3800 ∷ []) gives mapped greyWords (average (negℤ (pos 129)) 128 180) (52 ∷ 52 ∷ 52 ∷ 29 ∷ 29 ∷ 29 ∷ []) ∷
+    averaged 180 (0x3C00 ∷ 0x3C00 ∷ 0x3800 ∷ []) gives steps (negℤ (pos 87)) ∷
     []
 
 -- The table is as the definitions have it. Proved as `table-holds` in proofs/Table.antt.
