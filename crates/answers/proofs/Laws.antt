@@ -3,22 +3,10 @@ use Prim.Native.Nat.{ℕ}
 use mathlib.Core.Path.{_≡_, sym, ap, subst, _∙_}
 use mathlib.Core.List.{List}
 use native.Mathlib.Omega.{arith}
-use Rattle.refusal.specs.declared.Refusal.{Refusal}
-use Rattle.refusal.specs.declared.Refusal.the-variants.{
-  BadSize,
-  BadKey,
-  WrongLength,
-  SmallOutput,
-  NotANumber,
-  TooBright,
-  UnexpectedWord,
-  InvalidChannel,
-  NoSuchRow,
-}
+use Rattle.refusal.proofs.Laws.{numbered}
 use Rattle.refusal.specs.declared.Outcome.{Outcome}
 use Rattle.refusal.specs.declared.Verdict.{Verdict}
 use Rattle.refusal.specs.declared.Verdict.the-variants.{Accepted, Refused}
-use Rattle.refusal.specs.Refusals.{outcomeOf}
 use Rattle.refusal.specs.Verdicts.{reportOf}
 use Rattle.refusal.specs.Output.{after}
 use Rattle.average.specs.declared.average.Average.the-variants.{Absent, Present}
@@ -34,18 +22,6 @@ use Rattle.answers.specs.Claims.{TallyBound, MapBound}
 pub reported : {verdict v : Verdict} {front old new : List ℕ} {told : Outcome} → told ≡ reportOf v → v ≡ verdict
     → new ≡ after v front old → Reports verdict front old told new
 reported {front} {old} t v c = record { outcome = t ∙ ap reportOf v; content = c ∙ ap (λ w. after w front old) v }
-
--- no refusal has number 0
-numbered : (r : Refusal) (i : ℕ) → outcomeOf r i .number ≡ 0 → ⊥
-numbered BadSize i e = omega (arith, e)
-numbered BadKey i e = omega (arith, e)
-numbered WrongLength i e = omega (arith, e)
-numbered SmallOutput i e = omega (arith, e)
-numbered NotANumber i e = omega (arith, e)
-numbered TooBright i e = omega (arith, e)
-numbered UnexpectedWord i e = omega (arith, e)
-numbered InvalidChannel i e = omega (arith, e)
-numbered NoSuchRow i e = omega (arith, e)
 
 -- a tally's promise
 bounded : (s : List ℕ) (a : TallyOrRefusal) → TallyPromise s a → TallyBound s (tallyAnswer a)

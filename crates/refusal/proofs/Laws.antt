@@ -1,10 +1,23 @@
--- Laws of a chain of checks. Assumes nothing.
+-- Laws of a chain of checks, and of the numbers that answers tell. Assumes nothing.
 use Prim.Native.Nat.{ℕ}
 use mathlib.Core.Path.{_≡_, refl, ap}
 use mathlib.Core.Bool.{Bool, true, false}
+use native.Mathlib.Omega.{arith}
 use Rattle.refusal.specs.declared.Refusal.{Refusal}
+use Rattle.refusal.specs.declared.Refusal.the-variants.{
+  BadSize,
+  BadKey,
+  WrongLength,
+  SmallOutput,
+  NotANumber,
+  TooBright,
+  UnexpectedWord,
+  InvalidChannel,
+  NoSuchRow,
+}
 use Rattle.refusal.specs.declared.Verdict.{Verdict}
 use Rattle.refusal.specs.declared.Verdict.the-variants.{Accepted, Refused}
+use Rattle.refusal.specs.Refusals.{outcomeOf}
 use Rattle.refusal.specs.Verdicts.{require, andThen}
 
 -- an accepted chain: each check is met
@@ -43,3 +56,15 @@ and-last (Refused r i) = refl
 -- two answers that are the same are told alike
 pub also : {A B : Type 0} (f : A → B) {x y : A} → x ≡ y → (x ≡ y) × (f x ≡ f y)
 also f e = (e, ap f e)
+
+-- no refusal has number 0
+pub numbered : (r : Refusal) (i : ℕ) → outcomeOf r i .number ≡ 0 → ⊥
+numbered BadSize i e = omega (arith, e)
+numbered BadKey i e = omega (arith, e)
+numbered WrongLength i e = omega (arith, e)
+numbered SmallOutput i e = omega (arith, e)
+numbered NotANumber i e = omega (arith, e)
+numbered TooBright i e = omega (arith, e)
+numbered UnexpectedWord i e = omega (arith, e)
+numbered InvalidChannel i e = omega (arith, e)
+numbered NoSuchRow i e = omega (arith, e)
