@@ -14,10 +14,11 @@ use Rattle.average.specs.Averages.{floorDiv, floorMod, storedAverage, av
 use Rattle.average.specs.loops.Sums.{IsSum, HasAverage}
 use Rattle.average.specs.declared.average.Average.the-variants.{Absent, Present}
 use Rattle.average.specs.Tables.{rootOf}
+use Rattle.average.specs.Claims.{AveragesInRange}
 use Rattle.average.proofs.Differences.{sub-pos, sub-plus, sub-least, sub-most, lowered}
 use Rattle.average.proofs.Division.{floor-sub, mod-sub}
 use Rattle.average.proofs.Rules.{root-mantissa}
-use Rattle.average.proofs.Sums.{InSteps, sum-lowered}
+use Rattle.average.proofs.Sums.{InSteps, sum-lowered, tally-is-sum}
 
 average-in-range : {n : ℕ} {z : ℤ} → 0 < n → IsSum n z → IsAverage (floorDiv z n)
 average-in-range {n} h s =
@@ -117,3 +118,11 @@ module _ (n : ℕ) (z : ℤ) where
   reported-range s e =
       let r = reported e in
       subst IsStoredAverage (r .stored) (stored-average-range _ (subst IsAverage (r .steps) (average-in-range (r .lit) s)))
+
+pub averages-in-range : AveragesInRange
+averages-in-range ys h few A average e =
+    let s = tally-is-sum ys h few in
+    let r = reported _ _ e in
+    let steps : IsAverage A = subst IsAverage (r .steps) (average-in-range (r .lit) s) in
+    let stored = reported-range _ _ s e in
+    record { least = steps .least; most = steps .most; stored-least = stored .least; stored-most = stored .most }

@@ -1,13 +1,14 @@
 -- Division by n, rounded toward minus infinity: taking c·n from a number takes c from its quotient and leaves the rest.
 -- Assumes nothing.
-use mathlib.Core.Path.{_≡_, refl, ap}
+use mathlib.Core.Path.{_≡_, refl, sym, ap, _∙_}
 use Prim.Native.Nat.{ℕ, suc, _+_, _-_, _*_, _/_, _%_, _<_}
 use native.Mathlib.Nat.{mod-lt, div-add-mod'}
 use native.Mathlib.Omega.{arith}
 use lib.Arith.{digits-div, digits-mod}
-use lib.IntN.{ℤ, pos, negsuc, subℕ}
+use lib.IntN.{ℤ, pos, negsuc, subℕ, _+ℤ_, _*ℤ_, pos-*ℤ-pos}
 use Rattle.average.specs.Averages.{floorDiv, floorMod}
-use Rattle.average.proofs.Differences.{sub-pos, sub-neg, sub-cases}
+use Rattle.average.specs.Claims.{FloorDivides}
+use Rattle.average.proofs.Differences.{sub-pos, sub-neg, sub-cases, sub-plus, sub-times}
 
 module _ (n r : ℕ) (small : r < n) where
   rest : n - suc r < n
@@ -31,3 +32,16 @@ module _ (b c n : ℕ) (n>0 : 0 < n) where
 pub floor-mod-lt : (z : ℤ) (n : ℕ) → 0 < n → floorMod z n < n
 floor-mod-lt (pos a) n h = mod-lt a h
 floor-mod-lt (negsuc a) n h = omega arith
+
+pub floor-divides : FloorDivides
+floor-divides z n h = record { whole = by z; rest = floor-mod-lt z n h }
+  where
+    by : (z : ℤ) → z ≡ floorDiv z n *ℤ pos n +ℤ pos (floorMod z n)
+    by (pos a) = sym (ap (λ x. x +ℤ pos (a % n)) (pos-*ℤ-pos (a / n) n) ∙ ap pos (div-add-mod' a n))
+    by (negsuc a) =
+        let q = a / n in
+        let r = n - 1 - a % n in
+        let product : negsuc q *ℤ pos n ≡ subℕ (0 * n) (suc q * n) =
+        ap (λ x. x *ℤ pos n) (sym (sub-neg 0 (suc q) q (omega arith))) ∙ sub-times 0 (suc q) n in
+        sym (ap (λ x. x +ℤ pos r) product ∙ sub-plus (0 * n) (suc q * n) r
+        ∙ sub-neg (0 * n + r) (suc q * n) a (omega (arith, div-add-mod' a n, mod-lt a h)))

@@ -1,12 +1,14 @@
 -- The rules of T and X: what is greatest passes its test and the next number does not. Assumes nothing.
 use Prim.Native.Nat.{ℕ, suc, _+_, _*_, _^_, _≤_, _<_, zero-le}
-use native.Mathlib.Nat.{suc-ne-zero, le-trans, pow-le-pow-left, pow-lt-pow-left}
+use native.Mathlib.Decide.{decLe}
+use native.Mathlib.Nat.{suc-ne-zero, le-trans, lt-of-not-le, not-le-of-lt, pow-le-pow-left, pow-lt-pow-left}
 use native.Mathlib.Omega.{arith}
 use lib.Dec.{T, leb→le, le→leb, nleb→lt}
 use lib.Pow.{pow-lt, pow-mono}
 use lib.Arith.{lt→nleb}
 use Rattle.number.proofs.Laws.{IsMantissa}
 use Rattle.average.specs.Tables.{logTest, logOf, rootTest, rootOf}
+use Rattle.average.specs.Claims.{EntriesAreGreatest}
 use Rattle.average.proofs.Greatest.{greatest-le, passes, fails-next, reaches}
 
 pub log-le : (M : ℕ) → logOf M ≤ 2047
@@ -48,3 +50,28 @@ module _ (f : ℕ) where
     least = reaches (rootTest f) 255 128 (omega arith) (le→leb (128 ^ 256) _ (pow-mono {i = 1792} {j = 1792 + f} (omega arith)));
     most = greatest-le (rootTest f) 255;
   }
+
+-- what passes is at most n, where what is n + 1 or more does not
+at-most : (n m : ℕ) → (suc n ≤ m → ⊥) → m ≤ n
+at-most n m over = by (decLe m n)
+  where
+    by : Dec (m ≤ n) → m ≤ n
+    by (yes h) = h
+    by (no h) = absurd (over (lt-of-not-le h))
+
+pub entries-greatest : EntriesAreGreatest
+entries-greatest = record {
+  log = λ M least most.
+      let m : IsMantissa M = record { least = least; most = most } in
+      record {
+        passes = log-below M m;
+        greatest = λ t p.
+            at-most (logOf M) t
+            (λ l. not-le-of-lt (log-above M m) (le-trans (pow-mono {i = suc (logOf M) + 256} {j = t + 256} (omega arith)) p));
+      };
+  root = λ f small.
+      record {
+        passes = root-below f;
+        greatest = λ m p. at-most (rootOf f) m (λ l. not-le-of-lt (root-above f (omega arith)) (le-trans (pow-le-pow-left l 256) p));
+      };
+}

@@ -1,16 +1,58 @@
--- The first half of demand 3, as a claim about a list of luminances: the average against the true logarithm of the mean. Assumes nothing.
--- It is proved in proofs/Mean.antt, `mean-bound`.
+-- What steps 2 and 3 say of their numbers, and the first half of demand 3: the average against the true logarithm of the mean. Assumes
+-- nothing. Proved as `entries-greatest` (proofs/Rules.antt), `floor-divides` (proofs/Division.antt), `averages-in-range`
+-- (proofs/Averages.antt) and `mean-bound` (proofs/Mean.antt).
 use mathlib.Core.Path.{_≡_}
 use mathlib.Core.List.{List, [], _∷_}
-use Prim.Native.Nat.{ℕ, suc, _*_}
-use lib.IntN.{ℤ, pos, negsuc, _+ℤ_, _-ℤ_, _*ℤ_}
+use Prim.Native.Nat.{ℕ, suc, _+_, _*_, _^_, _≤_, _<_}
+use lib.IntN.{ℤ, pos, negsuc, negℤ, _+ℤ_, _-ℤ_, _*ℤ_}
 use lib.ListN.{length}
+use lib.Signed.{_≤ℤ_}
 use Rattle.number.proofs.Laws.{Every, Frac, _over_, _·_, power, twoTo, twoToMinus, AtMost, Below, storedWorth}
 use Rattle.number.specs.declared.ratio.Stored.{Stored}
 use Rattle.luminance.specs.Pixels.{IsLuminance}
 use Rattle.average.specs.Tallies.{sumOf}
-use Rattle.average.specs.Averages.{averageOf}
+use Rattle.average.specs.Tables.{logOf, rootOf}
+use Rattle.average.specs.Averages.{floorDiv, floorMod, averageOf}
 use Rattle.average.specs.declared.average.Average.the-variants.{Present}
+
+-- ---- steps 2 and 3
+
+-- "the greatest t with 2^(t+256) ≤ (2M+1)^256"
+pub record LogIsGreatest (M : ℕ) : Type 0 where
+  pub passes : 2 ^ (logOf M + 256) ≤ (2 * M + 1) ^ 256
+  pub greatest : (t : ℕ) → 2 ^ (t + 256) ≤ (2 * M + 1) ^ 256 → t ≤ logOf M
+
+-- "the greatest m with m^256 ≤ 2^(1792+f)"
+pub record RootIsGreatest (f : ℕ) : Type 0 where
+  pub passes : rootOf f ^ 256 ≤ 2 ^ (1792 + f)
+  pub greatest : (m : ℕ) → m ^ 256 ≤ 2 ^ (1792 + f) → m ≤ rootOf f
+
+-- T[M] of every mantissa, and X[f], "f 0 to 255"
+pub record EntriesAreGreatest : Type 0 where
+  pub log : (M : ℕ) → 128 ≤ M → M ≤ 255 → LogIsGreatest M
+  pub root : (f : ℕ) → f ≤ 255 → RootIsGreatest f
+
+-- z is n times its quotient and a rest from 0 to n − 1: "rounded toward minus infinity", "A = 256q + f, f 0 to 255"
+pub record Divided (z : ℤ) (n : ℕ) : Type 0 where
+  pub whole : z ≡ floorDiv z n *ℤ pos n +ℤ pos (floorMod z n)
+  pub rest : floorMod z n < n
+
+abbrev pub FloorDivides : Type 0
+FloorDivides = (z : ℤ) (n : ℕ) → 0 < n → Divided z n
+
+-- where an average lies, in steps and stored: q + 128 and q + 129 are exponents
+pub record AverageRange (A : ℤ) (average : Stored) : Type 0 where
+  pub least : negℤ (pos 15630) ≤ℤ A
+  pub most : A ≤ℤ pos 14335
+  pub stored-least : 67 ≤ average .exponent
+  pub stored-most : average .exponent ≤ 184
+
+-- for every list of luminances, up to many more than a page has, and the average that its tally reports
+abbrev pub AveragesInRange : Type 0
+AveragesInRange = (ys : List Stored) → Every IsLuminance ys → length ys ≤ 2 ^ 40
+    → (A : ℤ) (average : Stored) → averageOf (length ys) (sumOf ys) ≡ Present A average → AverageRange A average
+
+-- ---- the first half of demand 3
 
 -- "P is the product, over the N lit pixels, of the worths of their luminances as step 1 stores them."
 abbrev pub productOfWorths : List Stored → Frac
