@@ -9,7 +9,7 @@ use Rattle.body.specs.Luminances.{litCount}
 use Rattle.page.specs.Claims.{MeanHalf, MapPromise}
 use Rattle.answers.specs.declared.tallies.TallyAnswer.{TallyAnswer}
 
--- N counts the lit pixels; an average is absent only where there is none; the first half of demand 3 holds of a present one
+-- N counts the lit pixels; an average is absent only where no pixel is lit; the first half of demand 3 holds of a present one
 pub record TallyBound (s : List ℕ) (r : TallyAnswer) : Type 0 where
   pub count : r .number ≡ 0 → r .lit ≡ litCount (stripPixels s)
   pub absent : r .number ≡ 0 → r .present ≡ 0 → litCount (stripPixels s) ≡ 0

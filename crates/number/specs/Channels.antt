@@ -53,7 +53,7 @@ abbrev pub codeOf : Channel → ℕ
 codeOf Black = 0
 codeOf (Lit E M) = 256 * E + M
 
--- an answer's: the channel's number, or the refusal of a number that stands alone and has no place
+-- what is told of a number that is decoded alone: its channel's code, or its refusal. It stands at no index, and its place is 0.
 abbrev pub decodedTold : Decoded → Told
 decodedTold (Holds c) = holding (pos (codeOf c) ∷ [])
 decodedTold (Refuses r) = refusing r 0

@@ -4,6 +4,7 @@ ghost use mathlib.Core.Path.{_≡_};
 ghost use lib.ListN.{length};
 ghost use Rattle.refusal.specs.Output.{onto, after};
 ghost use Rattle.ppm.specs.Words.{wordOfBytes, littleEndian, checkBytes};
+ghost use Rattle.refusal.specs.Verdicts.{reportOf};
 use refusal::Refusal;
 use refusal::Verdict;
 
@@ -35,6 +36,7 @@ fn fill_words(bytes: &[u8], output: &mut [u32])
 // The little-endian words of the bytes, into the front of the output; a refusal leaves the output as it was.
 pub fn store_words(bytes: &[u8], output: &mut [u32]) -> Verdict
     ensures verdict { λ r. ⌜ r ≡ checkBytes (now (bytes .entry)) (length (now (output .entry))) ⌝ }
+    ensures outcome { λ r. ⌜ reportOf r ≡ reportOf (checkBytes (now (bytes .entry)) (length (now (output .entry)))) ⌝ }
     ensures content { λ r. ⌜ now (output .exit) ≡ after r (littleEndian (now (bytes .entry))) (now (output .entry)) ⌝ }
 {
     if bytes.len() % 4 != 0 {

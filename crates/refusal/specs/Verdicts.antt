@@ -14,7 +14,7 @@ reportOf (Refused r i) = outcomeOf r i
 
 -- A chain of checks is written in the order in which they are made: `require test refusal index rest`, one line a condition. The first
 -- condition that is not met decides; where all are met, the chain ends in `Accepted`. So no refusal comes without its condition, and
--- none is passed over.
+-- none is passed over. Elements and words in a row are chained likewise, by `andThen`.
 unfoldable pub require : Bool → Refusal → (i : ℕ) → Verdict → Verdict
 require true r i rest = rest
 require false r i rest = Refused r i

@@ -14,8 +14,8 @@ pub record Placed : Type 0 where
   pub index : ℕ
   pub decoded : Decoded
 
--- A row with one element a channel, the first of which is channel k: f says what an element decodes to as channel j. Channel 0 has the
--- index `start`.
+-- A row with one element a channel, the first of which is channel k: f k x is what an element x decodes to as channel k. Channel 0 has
+-- the index `start`.
 abbrev pub placed : (f : ℕ → ℕ → Decoded) (start k : ℕ) → List ℕ → List Placed
 placed f start k [] = []
 placed f start k (x ∷ xs) = record { index = start + k; decoded = f k x } ∷ placed f start (suc k) xs

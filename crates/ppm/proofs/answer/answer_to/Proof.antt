@@ -36,7 +36,7 @@ told c =
 kept : (c : tie.After-store-words)
     → let a = c .before .before .before .before .args in
     c .store-words .last .1 .0 ≡ after (checkBytes (now (a .input)) 16384) (littleEndian (now (a .input))) (now (a .words))
-kept c = let e = told c in rw (← e) (c .store-words .ensures .1)
+kept c = let e = told c in rw (← e) (c .store-words .ensures .1 .1)
 
 returns-2 : tie.Need-returns-2
 returns-2 c =
@@ -56,7 +56,7 @@ strip : (c : tie.After-enum-told)
 strip c =
     let w = c .before .before in
     let a = w .before .before .before .before .args in
-    strip-stored (now (a .input)) (omega arith) (told w) (c .enum-told .given .1) _ (now (a .words)) (w .store-words .ensures .1)
+    strip-stored (now (a .input)) (omega arith) (told w) (c .enum-told .given .1) _ (now (a .words)) (w .store-words .ensures .1 .1)
 
 slice-aggregate-picture : tie.Need-slice-aggregate-picture
 slice-aggregate-picture c =
