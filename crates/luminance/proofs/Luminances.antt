@@ -20,7 +20,7 @@ use Rattle.number.proofs.Laws.{
   unit-pos,
   code-mono,
   idempotent,
-  promised,
+  is-mantissa,
   stored,
   worth-scaled,
 }
@@ -141,7 +141,7 @@ module _ (p : Pixel) (valid : IsPixel p) where
         record {
           least = code-mono least-stores stores (record { cross = mul-le-mul-right (100 * unit) lit });
           most = omega (arith, top);
-          mantissa = promised stores .mantissa;
+          mantissa = is-mantissa stores;
         }
 
   -- the luminance of a lit pixel is what is stored of its exact luminance, and lies from (67,246) to (184,255)

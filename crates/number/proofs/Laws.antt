@@ -5,12 +5,13 @@
 -- lists; fractions; the rule of storing, worths in units of 2^-137, and what is stored; channels and their worths
 pub use Rattle.number.specs.Lists.{Every}
 pub use Rattle.number.proofs.Lists.{every-map, every-take, Filled, filled-none, filled-next}
-pub use Rattle.number.specs.Fractions.{Frac, _over_, _·_, _÷_, _times_, power, twoToMinus, twoTo, Positive, Equal, AtMost, Below, Near}
-pub use Rattle.number.specs.Storing.{Normalised, Scales, IsMantissa, Promised, Stores, unit, worth, storedWorth, storedOf, ratioOf}
+pub use Rattle.number.specs.Fractions.{Frac, _over_, _·_, _÷_, _times_, power, twoToMinus, twoTo, Positive, Equal, AtMost, Below}
+pub use Rattle.number.specs.Storing.{Normalised, Scales, IsMantissa, Stores, unit, worth, storedWorth, storedOf, ratioOf}
 pub use Rattle.number.specs.Channels.{IsLit, IsChannel, worthOf, codeOf, codeChannel, Coded, IsCode}
 -- existence and uniqueness of exponent, which is a difference, and mantissa; what storing promises
-pub use Rattle.number.proofs.Storing.{scales-exist}
-pub use Rattle.number.proofs.Scaling.{same-difference, unique-exponent, unique-mantissa, promised}
+pub use Rattle.number.specs.Claims.{Near, Promised}
+pub use Rattle.number.proofs.Storing.{one-exponent, stores-by-rule}
+pub use Rattle.number.proofs.Scaling.{same-difference, is-mantissa, promised}
 -- equal fractions are stored alike; only the difference of the powers counts, which go into a fraction and out of it
 pub use Rattle.number.proofs.Scaling.{denominator-pos, scales-equal, rescale, powers-into, whole-powers-into, powers-out}
 -- a factor 2^k moves only the exponent; storing is monotone in the worth; a stored worth is stored as itself
@@ -29,5 +30,5 @@ pub use Rattle.number.proofs.Sticky.{sticky-bit}
 -- the order of 256E + M; channels
 pub use Rattle.number.proofs.Storing.{code-order, code-mono}
 pub use Rattle.number.proofs.Channels.{code-channel, channel-code, channel-order, channel-valid}
-pub use Rattle.number.proofs.Sources.{half-valid, single-valid, rgbe-valid}
+pub use Rattle.number.proofs.Sources.{half-valid, single-valid, rgbe-valid, lit-in-range}
 pub use Rattle.number.proofs.Halves.{half-finite}

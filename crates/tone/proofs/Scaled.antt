@@ -22,7 +22,7 @@ use Rattle.number.proofs.Laws.{
   at-most-up,
   fits-between,
   in-range,
-  promised,
+  is-mantissa,
   ratio-above,
   ratio-at-most,
   stored-alike,
@@ -97,5 +97,5 @@ module _ (t : Tone) (y : Stored) (tone : IsTone t) (luminance : IsLuminance y) w
       (record {
         least = omega (arith, above-down s 128 .1 (above 128 tt));
         most = omega (arith, at-most-up s 118 .1 (at-most 118 tt));
-        mantissa = promised s .mantissa;
+        mantissa = is-mantissa s;
       })
