@@ -29,6 +29,7 @@ use Rattle.number.specs.declared.channel.Channel.the-variants.{Black, Lit}
 use Rattle.number.specs.declared.channel.Pixel.{Pixel}
 use Rattle.number.specs.declared.ratio.Stored.{Stored}
 use Rattle.luminance.specs.Pixels.{IsPixel, exactLuminance, isBlack, luminanceOf, IsLuminance}
+use Rattle.luminance.specs.Claims.{LuminanceInRange}
 use Rattle.luminance.specs.declared.pixel.Luminance.{Luminance}
 use Rattle.luminance.specs.declared.pixel.Luminance.the-variants.{Unlit}
 use Rattle.luminance.proofs.Storables.{StoresAs, shut}
@@ -150,3 +151,8 @@ module _ (p : Pixel) (valid : IsPixel p) where
 
   pub luminance-range : (y : Stored) → luminanceOf p ≡ Luminance.Lit y → IsLuminance y
   luminance-range y e = let k = lit-channel y e in subst IsLuminance (sym (k .1)) (range (k .0))
+
+-- "E is 67 to 184."
+pub luminance-in-range : LuminanceInRange
+luminance-in-range p valid y e =
+    let range = luminance-range p valid y e in record { least = omega (arith, range); most = range .most }
