@@ -35,7 +35,8 @@ use Rattle.number.proofs.Laws.{
   stored-as,
 }
 use Rattle.number.specs.declared.ratio.Stored.{Stored}
-use Rattle.tone.specs.Levels.{IsScaled, reinhard, displayOf}
+use Rattle.tone.specs.Levels.{reinhard, displayOf}
+use Rattle.tone.specs.Claims.{IsScaled}
 use Rattle.luminance.proofs.Products.{power-difference}
 use Rattle.luminance.proofs.Storables.{unitRatio, Storable, StoresAs, shut}
 

@@ -30,7 +30,8 @@ use Rattle.number.proofs.Laws.{
 }
 use Rattle.number.specs.declared.ratio.Stored.{Stored}
 use Rattle.tone.specs.declared.tone.Tone.{Tone}
-use Rattle.tone.specs.Levels.{IsTone, keyOverAverage, scaledOf, IsScaled}
+use Rattle.tone.specs.Levels.{IsTone, keyOverAverage, scaledOf}
+use Rattle.tone.specs.Claims.{IsScaled, ScaledInRange}
 use Rattle.luminance.specs.Pixels.{IsLuminance}
 use Rattle.luminance.proofs.Products.{power-difference, product-between}
 use Rattle.luminance.proofs.Storables.{unitRatio, Storable, StoresAs}
@@ -89,9 +90,8 @@ module _ (t : Tone) (y : Stored) (tone : IsTone t) (luminance : IsLuminance y) w
   pub scaled-stores : StoresAs exact (scaledOf t y)
   scaled-stores = stores-alike (scaled-storable .in-range) equal positive
 
-  -- "E is 1 to 246."
-  pub is-scaled : IsScaled (scaledOf t y)
-  is-scaled =
+  range : IsScaled (scaledOf t y)
+  range =
       let s = in-range (scaled-storable .in-range) in
       subst IsScaled scaled-stored
       (record {
@@ -99,3 +99,7 @@ module _ (t : Tone) (y : Stored) (tone : IsTone t) (luminance : IsLuminance y) w
         most = omega (arith, at-most-up s 118 .1 (at-most 118 tt));
         mantissa = is-mantissa s;
       })
+
+-- "E is 1 to 246."
+pub is-scaled : ScaledInRange
+is-scaled t y tone luminance = range t y tone luminance
