@@ -21,7 +21,7 @@ use Rattle.number.proofs.Laws.{
   code-mono,
   idempotent,
   is-mantissa,
-  stored,
+  stores-by-rule,
   worth-scaled,
 }
 use Rattle.number.specs.declared.channel.Channel.{Channel}
@@ -107,7 +107,7 @@ module _ (p : Pixel) (valid : IsPixel p) where
     -- every luminance is above 2^-129
     stores : StoresAs (exactLuminance p) (storedOf (exactLuminance p))
     stores =
-        stored (exactLuminance p) 129 (lit≤ tt) pos
+        stores-by-rule (exactLuminance p) pos
         (record {
           cross = shut (λ (u : ℕ). 1 * (100 * u) < sum * 2 ^ 129) (large (2 ^ 129) sum (pow-pos 129) (omega arith));
         })
