@@ -14,7 +14,7 @@ use Rattle.luminance.specs.declared.pixel.Luminance.{Luminance}
 use Rattle.tone.specs.declared.tone.Tone.{Tone}
 use Rattle.tone.specs.Levels.{IsTone, keyOverAverage, scaledOf, reinhard, mappedLevel}
 
--- ---- "E is 1 to 246.": the scaled luminance, under every key and stored average
+-- ---- the scaled luminance, under every key and stored average: "E is 1 to 246."
 
 pub record IsScaled (l : Stored) : Type 0 where
   pub least : 1 ≤ l .exponent
@@ -24,7 +24,7 @@ pub record IsScaled (l : Stored) : Type 0 where
 abbrev pub ScaledInRange : Type 0
 ScaledInRange = (t : Tone) (y : Stored) → IsTone t → IsLuminance y → IsScaled (scaledOf t y)
 
--- ---- "to the nearest whole number, halves up, at most 255": a half stands only where the level is 255 anyhow
+-- ---- "to the nearest whole number, halves up, at most 255": a half comes out only where the level is 255 whichever way it is rounded
 
 -- x is n + 1/2
 pub record IsHalf (n : ℕ) (x : Frac) : Type 0 where
