@@ -1,4 +1,3 @@
 pub mod Pages
 pub mod Pixels
 pub mod HalfBlocks
-pub mod RoundTrip

@@ -1,4 +1,3 @@
 pub mod Formats
 pub mod Converting
-pub mod Claims
 pub mod loops

@@ -20,8 +20,8 @@ use Rattle.number.proofs.Laws.{
   unit-pos,
   code-mono,
   idempotent,
-  promised,
-  stored,
+  is-mantissa,
+  stores-by-rule,
   worth-scaled,
 }
 use Rattle.number.specs.declared.channel.Channel.{Channel}
@@ -29,6 +29,7 @@ use Rattle.number.specs.declared.channel.Channel.the-variants.{Black, Lit}
 use Rattle.number.specs.declared.channel.Pixel.{Pixel}
 use Rattle.number.specs.declared.ratio.Stored.{Stored}
 use Rattle.luminance.specs.Pixels.{IsPixel, exactLuminance, isBlack, luminanceOf, IsLuminance}
+use Rattle.luminance.specs.Claims.{LuminanceInRange}
 use Rattle.luminance.specs.declared.pixel.Luminance.{Luminance}
 use Rattle.luminance.specs.declared.pixel.Luminance.the-variants.{Unlit}
 use Rattle.luminance.proofs.Storables.{StoresAs, shut}
@@ -106,7 +107,7 @@ module _ (p : Pixel) (valid : IsPixel p) where
     -- every luminance is above 2^-129
     stores : StoresAs (exactLuminance p) (storedOf (exactLuminance p))
     stores =
-        stored (exactLuminance p) 129 (lit≤ tt) pos
+        stores-by-rule (exactLuminance p) pos
         (record {
           cross = shut (λ (u : ℕ). 1 * (100 * u) < sum * 2 ^ 129) (large (2 ^ 129) sum (pow-pos 129) (omega arith));
         })
@@ -141,7 +142,7 @@ module _ (p : Pixel) (valid : IsPixel p) where
         record {
           least = code-mono least-stores stores (record { cross = mul-le-mul-right (100 * unit) lit });
           most = omega (arith, top);
-          mantissa = promised stores .mantissa;
+          mantissa = is-mantissa stores;
         }
 
   -- the luminance of a lit pixel is what is stored of its exact luminance, and lies from (67,246) to (184,255)
@@ -150,3 +151,8 @@ module _ (p : Pixel) (valid : IsPixel p) where
 
   pub luminance-range : (y : Stored) → luminanceOf p ≡ Luminance.Lit y → IsLuminance y
   luminance-range y e = let k = lit-channel y e in subst IsLuminance (sym (k .1)) (range (k .0))
+
+-- "E is 67 to 184."
+pub luminance-in-range : LuminanceInRange
+luminance-in-range p valid y e =
+    let range = luminance-range p valid y e in record { least = omega (arith, range); most = range .most }

@@ -31,7 +31,7 @@ use Rattle.number.specs.declared.channel.Decoded.{Decoded}
 use Rattle.number.specs.declared.channel.Decoded.the-variants.{Holds, Refuses}
 use Rattle.number.specs.declared.ratio.Stored.{Stored}
 use Rattle.refusal.specs.declared.Refusal.the-variants.{TooBright, InvalidChannel}
-use Rattle.number.proofs.Scaling.{denominator-pos, rescale, above-down, at-most-up, promised}
+use Rattle.number.proofs.Scaling.{denominator-pos, rescale, above-down, at-most-up, is-mantissa}
 use Rattle.number.proofs.Storing.{unit-pos, stored-as, stored, code-order}
 use Rattle.number.proofs.Ranges.{small, within, large, small-at, within-at, large-at}
 
@@ -80,7 +80,7 @@ lit-valid s a b =
     record {
       least = omega (arith, above-down s blackPower .1 a);
       most = at-most-up s brightPower .1 b;
-      mantissa = promised s .mantissa;
+      mantissa = is-mantissa s;
     }
 
 -- every channel that a number becomes is one

@@ -5,20 +5,24 @@
 -- lists; fractions; the rule of storing, worths in units of 2^-137, and what is stored; channels and their worths
 pub use Rattle.number.specs.Lists.{Every}
 pub use Rattle.number.proofs.Lists.{every-map, every-take, Filled, filled-none, filled-next}
-pub use Rattle.number.specs.Fractions.{Frac, _over_, _·_, _÷_, _times_, power, twoToMinus, twoTo, Positive, Equal, AtMost, Below, Near}
-pub use Rattle.number.specs.Storing.{Normalised, Scales, IsMantissa, Promised, Stores, unit, worth, storedWorth, storedOf, ratioOf}
+pub use Rattle.number.specs.Fractions.{Frac, _over_, _·_, _÷_, _times_, power, twoToMinus, twoTo, Positive, Equal, AtMost, Below}
+pub use Rattle.number.specs.Storing.{Normalised, Scales, IsMantissa, Stores, unit, worth, storedWorth, storedOf, ratioOf}
 pub use Rattle.number.specs.Channels.{IsLit, IsChannel, worthOf, codeOf, codeChannel, Coded, IsCode}
--- existence and uniqueness of exponent, which is a difference, and mantissa; what storing promises
-pub use Rattle.number.proofs.Storing.{scales-exist}
-pub use Rattle.number.proofs.Scaling.{same-difference, unique-exponent, unique-mantissa, promised}
+-- the claims: one exponent and mantissa, which `exponentOf` and `mantissaOf` are; what storing promises; where lit channels lie
+pub use Rattle.number.specs.Claims.{Near, Promised}
+pub use Rattle.number.proofs.Storing.{one-exponent, stores-by-rule}
+pub use Rattle.number.proofs.Scaling.{promised}
+pub use Rattle.number.proofs.Sources.{lit-in-range}
+-- an exponent is a difference; a mantissa is one
+pub use Rattle.number.proofs.Scaling.{same-difference, is-mantissa}
 -- equal fractions are stored alike; only the difference of the powers counts, which go into a fraction and out of it
 pub use Rattle.number.proofs.Scaling.{denominator-pos, scales-equal, rescale, powers-into, whole-powers-into, powers-out}
 -- a factor 2^k moves only the exponent; storing is monotone in the worth; a stored worth is stored as itself
 pub use Rattle.number.proofs.Scaling.{shift-exponent, worth-mono, idempotent}
 -- the thresholds of the exponent
 pub use Rattle.number.proofs.Scaling.{at-most-down, above-down, at-most-up, above-up}
--- an exponent from 0 on, and worths in units; `exponentOf` and `mantissaOf` store
-pub use Rattle.number.proofs.Storing.{unit-pos, unit-power, exponent-natural, worth-scaled, near, stored, stored-as}
+-- an exponent from 0 on, and worths in units; what stores a number is `storedOf` it
+pub use Rattle.number.proofs.Storing.{unit-pos, unit-power, exponent-natural, worth-scaled, near, stored-as}
 -- where the exponent fits eight bits
 pub use Rattle.number.proofs.Storing.{too-small-at, fits-at, too-large-at, in-range, stored-alike, stores-alike}
 pub use Rattle.number.proofs.Storing.{fits-between, ratio-above, ratio-at-most}

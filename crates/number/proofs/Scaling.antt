@@ -27,8 +27,9 @@ use native.Mathlib.Omega.{arith}
 use borrow.Author.Tests.{le-ltb, lt-ltb}
 use lib.IntN.{pos, negsuc, subℕ}
 use lib.Pow.{pow-pos, pow-mono, pow-add}
-use Rattle.number.specs.Fractions.{Frac, _over_, twoToMinus, twoTo, Equal, AtMost, Below, Near}
-use Rattle.number.specs.Storing.{exponentAt, Normalised, Scales, scaledWorth, IsMantissa, Promised}
+use Rattle.number.specs.Fractions.{Frac, _over_, twoToMinus, twoTo, Equal, AtMost, Below}
+use Rattle.number.specs.Storing.{exponentAt, Normalised, Scales, scaledWorth, IsMantissa}
+use Rattle.number.specs.Claims.{Near, StoredIsNear}
 use Rattle.number.proofs.Normalised.{divisor-pos, mantissa, floor, ceiling, ratio, mantissa-mono}
 
 -- a factor of a positive product
@@ -215,9 +216,16 @@ module _ {F G : Frac} {i j M i′ j′ M′ : ℕ} (s : Scales F i j M) (t : Sca
 error : {x u M : ℕ} → Normalised x u M → (255 * (2 * x) < (2 * M + 1) * u) × ((2 * M + 1) * u < 257 * (2 * x))
 error s = (omega (arith, ceiling s), omega (arith, floor s))
 
-pub promised : {F : Frac} {i j M : ℕ} → Scales F i j M → Promised F i j M
-promised {F} {i} {j} {M} s =
-    record { mantissa = mantissa (s .normalised); near = near (2 ^ i) (2 ^ j) (2 ^ (i + 9)) (pow-add 2 i 9) (error (s .normalised)) }
+pub is-mantissa : {F : Frac} {i j M : ℕ} → Scales F i j M → IsMantissa M
+is-mantissa s = mantissa (s .normalised)
+
+pub promised : StoredIsNear
+promised F i j M s =
+    record {
+      least = is-mantissa s .least;
+      most = is-mantissa s .most;
+      near = near (2 ^ i) (2 ^ j) (2 ^ (i + 9)) (pow-add 2 i 9) (error (s .normalised));
+    }
   where
     near : (p q u : ℕ) → u ≡ p * 512
         → (255 * (2 * (F .num * p)) < (2 * M + 1) * (F .den * q)) × ((2 * M + 1) * (F .den * q) < 257 * (2 * (F .num * p)))

@@ -9,7 +9,7 @@ use lib.Dec.{eqb}
 use lib.Pow.{pow-pos}
 use Rattle.number.specs.Fractions.{Frac, _over_}
 use Rattle.number.specs.Storing.{unit, worth}
-use Rattle.number.specs.Channels.{channelOf, IsChannel}
+use Rattle.number.specs.Channels.{channelOf, IsLit, IsChannel}
 use Rattle.number.specs.Sources.{
   Value,
   plus,
@@ -22,12 +22,13 @@ use Rattle.number.specs.Sources.{
   singleValue,
   rgbeValue,
 }
+use Rattle.number.specs.Claims.{LitRange, LitInRange}
 use Rattle.number.specs.declared.channel.Channel.{Channel}
-use Rattle.number.specs.declared.channel.Channel.the-variants.{Black}
+use Rattle.number.specs.declared.channel.Channel.the-variants.{Black, Lit}
 use Rattle.number.specs.declared.channel.Decoded.the-variants.{Holds, Refuses}
 use Rattle.refusal.specs.declared.Refusal.the-variants.{NotANumber}
 use Rattle.number.proofs.Storing.{unit-pos}
-use Rattle.number.proofs.Channels.{channel-valid}
+use Rattle.number.proofs.Channels.{channel-valid, channel-code}
 
 -- ---- by the fields
 
@@ -95,3 +96,18 @@ module _ (c : Channel) where
   pub rgbe-valid : (m e : ℕ) → channelOfValue (rgbeValue m e) ≡ Holds c → IsChannel c
   unfolding rgbeValue Valid
   rgbe-valid m e = valid-worth (eqb e 0) m e
+
+-- ---- "So lit channels have E 72 to 184."
+
+lit-range : {E M : ℕ} → IsLit E M → LitRange E M
+lit-range h = omega (arith, h)
+
+pub lit-in-range : LitInRange
+lit-in-range =
+    record {
+      rational = λ F p E M h. lit-range (channel-valid F p (Lit E M) h);
+      rgbe = λ m e E M h. lit-range (rgbe-valid (Lit E M) m e h);
+      half = λ b E M h. lit-range (half-valid (Lit E M) b h);
+      single = λ b E M h. lit-range (single-valid (Lit E M) b h);
+      stored = λ n E M h. lit-range (channel-code n (Lit E M) h .valid);
+    }

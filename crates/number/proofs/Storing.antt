@@ -29,7 +29,7 @@ use lib.IntN.{pos}
 use lib.Ieee.{size}
 use lib.Ieee.Digits.{size-lt, size-reaches}
 use lib.Pow.{pow-pos, pow-mono}
-use Rattle.number.specs.Fractions.{Frac, _over_, twoToMinus, twoTo, Positive, Equal, AtMost, Below, Near}
+use Rattle.number.specs.Fractions.{Frac, _over_, twoToMinus, twoTo, Positive, Equal, AtMost, Below}
 use Rattle.number.specs.Storing.{
   exponentAt,
   Scales,
@@ -43,6 +43,7 @@ use Rattle.number.specs.Storing.{
   storedOf,
   ratioOf,
 }
+use Rattle.number.specs.Claims.{Near, OneExponent, StoresByRule}
 use Rattle.number.specs.declared.ratio.StoredRatio.the-variants.{InRange, OutOfRange}
 use Rattle.number.proofs.Scaling.{
   denominator-pos,
@@ -50,8 +51,10 @@ use Rattle.number.proofs.Scaling.{
   powers-out,
   steep,
   unique-powers,
+  unique-exponent,
   unique-mantissa,
   worth-mono,
+  is-mantissa,
   promised,
 }
 use Rattle.number.proofs.Ranges.{small, within, large, small-at, within-at, large-at}
@@ -74,7 +77,7 @@ unfolding unit
 worth-scaled E M = refl
 
 pub near : {F : Frac} {E M : ℕ} → Stores F E M → Near F (worth E M)
-near {F} {E} {M} s = subst (Near F) (sym (worth-scaled E M)) (promised s .near)
+near {F} {E} {M} s = subst (Near F) (sym (worth-scaled E M)) (promised F 128 E M s .near)
 
 -- the numbers 256E + M go in the order of the worths
 code-less : (E M E′ M′ : ℕ) → IsMantissa M → IsMantissa M′ → 256 * E + M < 256 * E′ + M′ → Below (worth E M) (worth E′ M′)
@@ -101,7 +104,7 @@ code-mono {F} {G} {E} {M} {E′} {M′} s t h =
     le-of-suc-le-suc (lt-of-not-le (λ g.
     lt-irrefl _ (lt-of-le-of-lt
     (subst₂ AtMost (sym (worth-scaled E M)) (sym (worth-scaled E′ M′)) (worth-mono s t h) .cross)
-    (code-less E′ M′ E M (promised t .mantissa) (promised s .mantissa) g .cross))))
+    (code-less E′ M′ E M (is-mantissa t) (is-mantissa s) g .cross))))
 
 -- ---- `exponentOf` and `mantissaOf` store
 
@@ -133,6 +136,9 @@ stored F k l p a =
     upper : (N b : ℕ) → N - 1 < b * F .den → N ≤ F .den * b
     upper N b h = omega arith
 
+pub stores-by-rule : StoresByRule
+stores-by-rule F p a = stored F 129 (le-refl 129) p a
+
 -- whoever stores F has what the functions give for every fraction equal to it
 pub stored-as : {F G : Frac} {E M : ℕ} → Stores F E M → Equal F G → 0 < G .den → storedOf G ≡ record { exponent = E; mantissa = M }
 stored-as {F} {G} {E} {M} s e p =
@@ -148,10 +154,10 @@ stored-as {F} {G} {E} {M} s e p =
     halve B q o h = omega (arith, le-mul-of-pos-right (G .den) o)
 
     u : Stores G (exponentOf G) (mantissaOf G)
-    u = stored G 129 (le-refl 129) p (record { cross = halve (2 ^ 128) (2 ^ E) (pow-pos E) (t .normalised .above-half) })
+    u = stores-by-rule G p (record { cross = halve (2 ^ 128) (2 ^ E) (pow-pos E) (t .normalised .above-half) })
 
 -- every positive number can be scaled, however small: F · 2^k is above 1 where 2^k is above the denominator
-pub scales-exist : (F : Frac) → Positive F → (i : ℕ) × (j : ℕ) × (M : ℕ) × Scales F i j M
+scales-exist : (F : Frac) → Positive F → (i : ℕ) × (j : ℕ) × (M : ℕ) × Scales F i j M
 scales-exist F p = (k + 128, 0 + exponentOf G, mantissaOf G, powers-out (F .num) (F .den) k 0 (stored G 0 (lit≤ tt) den-pos above))
   where
     k : ℕ
@@ -165,6 +171,13 @@ scales-exist F p = (k + 128, 0 + exponentOf G, mantissaOf G, powers-out (F .num)
 
     above : Below (twoToMinus 0) G
     above = record { cross = omega (arith, size-lt (F .den), mul-le-mul-right (2 ^ k) (p .numerator)) }
+
+pub one-exponent : OneExponent
+one-exponent F p =
+    record { exists = scales-exist F p; only = λ s t. (unique-exponent s t itself, unique-mantissa s t itself) }
+  where
+    itself : Equal F F
+    itself = record { cross = refl }
 
 -- ---- storing where the exponent fits eight bits
 
@@ -196,7 +209,7 @@ in-range {F} e = by (decLe (F .num * 2 ^ 129) (1 * F .den)) (decLe (F .num * 1) 
     by (yes h) _ = absurd (distinct (sym (small 129 127 F _ _ _ (record { cross = h })) ∙ e))
     by (no g) (no h) = absurd (distinct (sym (large 129 127 F _ _ _ (record { cross = lt-of-not-le h })) ∙ e))
     by (no g) (yes h) =
-        stored F 129 (le-refl 129) (positive (F .num) (F .den) (2 ^ 129) (2 ^ 127) (lt-of-not-le g) h) (record { cross = lt-of-not-le g })
+        stores-by-rule F (positive (F .num) (F .den) (2 ^ 129) (2 ^ 127) (lt-of-not-le g) h) (record { cross = lt-of-not-le g })
 
 -- and so is every fraction equal to it, alike
 module _ {F G : Frac} (r : ratioOf F ≡ InRange (storedOf F)) (e : Equal F G) (p : 0 < G .den) where

@@ -59,8 +59,3 @@ atMost x y = leb (x .num * y .den) (y .num * x .den)
 -- one of three answers: for x at or below 2^-k, for x above that and at most 2^l, and for x above 2^l
 unfoldable pub byRange : {A : Type 0} (k l : ℕ) (x : Frac) (small within large : A) → A
 byRange k l x small within large = cond (atMost x (twoToMinus k)) small (cond (atMost x (twoTo l)) within large)
-
--- s differs from x by less than x/256: 255x < 256s < 257x
-pub record Near (x s : Frac) : Type 0 where
-  pub low : 255 * (x .num * s .den) < 256 * (s .num * x .den)
-  pub high : 256 * (s .num * x .den) < 257 * (x .num * s .den)

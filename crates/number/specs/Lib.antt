@@ -3,4 +3,5 @@ pub mod Fractions
 pub mod Storing
 pub mod Channels
 pub mod Sources
+pub mod Claims
 pub mod loops

@@ -3,7 +3,7 @@ use mathlib.Core.Path.{_≡_}
 use Prim.Native.Nat.{ℕ, _+_, _-_, _*_, _/_, _^_, _≤_, _<_, min}
 use lib.IntN.{ℤ, subℕ}
 use lib.Ieee.{size}
-use Rattle.number.specs.Fractions.{Frac, _over_, byRange, Near}
+use Rattle.number.specs.Fractions.{Frac, _over_, byRange}
 use Rattle.number.specs.declared.ratio.Stored.{Stored}
 use Rattle.number.specs.declared.ratio.StoredRatio.{StoredRatio}
 use Rattle.number.specs.declared.ratio.StoredRatio.the-variants.{InRange, OutOfRange}
@@ -40,11 +40,6 @@ leastMantissa = 128
 pub record IsMantissa (M : ℕ) : Type 0 where
   pub least : leastMantissa ≤ M
   pub most : M ≤ 255
-
--- "and the stored worth differs from F by less than F/256"
-pub record Promised (F : Frac) (i j M : ℕ) : Type 0 where
-  pub mantissa : IsMantissa M
-  pub near : Near F (scaledWorth i j M)
 
 -- ---- the same where E is not negative, for every F above 2^-129
 

@@ -30,12 +30,13 @@ use Rattle.number.proofs.Laws.{
   ratio-above,
   ratio-at-most,
   rescale,
-  stored,
+  stores-by-rule,
   stored-alike,
   stored-as,
 }
 use Rattle.number.specs.declared.ratio.Stored.{Stored}
-use Rattle.tone.specs.Levels.{IsScaled, reinhard, displayOf}
+use Rattle.tone.specs.Levels.{reinhard, displayOf}
+use Rattle.tone.specs.Claims.{IsScaled}
 use Rattle.luminance.proofs.Products.{power-difference}
 use Rattle.luminance.proofs.Storables.{unitRatio, Storable, StoresAs, shut}
 
@@ -49,7 +50,7 @@ share-pos v e = omega (arith, unit-pos)
 -- every display luminance is above 2^-129
 pub display-stores : (l : Stored) → IsScaled l → StoresAs (reinhard (storedWorth l)) (displayOf reinhard l)
 display-stores l s =
-    stored (reinhard (storedWorth l)) 129 (lit≤ tt) (share-pos _ _)
+    stores-by-rule (reinhard (storedWorth l)) (share-pos _ _)
     (record {
       cross = shut (λ (u : ℕ). 1 * (u + w) < w * 2 ^ 129)
           (large (2 ^ 129) w (lit≤ tt) (mul-le-mul {n₁ = 257} (omega (arith, s .mantissa)) (pow-mono {i = 1} (s .least))));

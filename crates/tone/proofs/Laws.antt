@@ -4,6 +4,8 @@
 pub use Rattle.tone.proofs.Scaled.{is-scaled}
 pub use Rattle.tone.proofs.PixelBounds.{display-mantissa}
 pub use Rattle.tone.proofs.LevelSteps.{black-level}
+-- below 255 no half is rounded
+pub use Rattle.tone.proofs.Halves.{no-half}
 -- the bound of a factor
 pub use Rattle.tone.proofs.Factors.{factor-most}
 -- the second half of demand 3, for every curve that never stretches a ratio, and for L/(1+L)

@@ -5,6 +5,7 @@ pub mod Scaled
 pub mod ScaledTables
 pub mod Displays
 pub mod LevelSteps
+pub mod Halves
 -- step 6 by factors
 pub mod Powers
 pub mod Factors

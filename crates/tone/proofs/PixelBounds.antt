@@ -1,6 +1,6 @@
 -- Demand 3, second half, of the steps as they are stored, for L/(1+L). Assumes nothing.
 use native.Mathlib.Omega.{arith}
-use Rattle.number.proofs.Laws.{IsMantissa, promised, near}
+use Rattle.number.proofs.Laws.{IsMantissa, is-mantissa, near}
 use Rattle.number.specs.declared.ratio.Stored.{Stored}
 use Rattle.luminance.specs.Pixels.{IsLuminance}
 use Rattle.tone.specs.declared.tone.Tone.{Tone}
@@ -20,4 +20,4 @@ level-bound p valid y e c _ t tone =
 
 -- the mantissa of a display luminance
 pub display-mantissa : (t : Tone) (y : Stored) → IsTone t → IsLuminance y → IsMantissa (displayUnder t y .mantissa)
-display-mantissa t y tone range = promised (display-stores _ (is-scaled t y tone range)) .mantissa
+display-mantissa t y tone range = is-mantissa (display-stores _ (is-scaled t y tone range))

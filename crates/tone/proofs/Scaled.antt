@@ -22,7 +22,7 @@ use Rattle.number.proofs.Laws.{
   at-most-up,
   fits-between,
   in-range,
-  promised,
+  is-mantissa,
   ratio-above,
   ratio-at-most,
   stored-alike,
@@ -30,7 +30,8 @@ use Rattle.number.proofs.Laws.{
 }
 use Rattle.number.specs.declared.ratio.Stored.{Stored}
 use Rattle.tone.specs.declared.tone.Tone.{Tone}
-use Rattle.tone.specs.Levels.{IsTone, keyOverAverage, scaledOf, IsScaled}
+use Rattle.tone.specs.Levels.{IsTone, keyOverAverage, scaledOf}
+use Rattle.tone.specs.Claims.{IsScaled, ScaledInRange}
 use Rattle.luminance.specs.Pixels.{IsLuminance}
 use Rattle.luminance.proofs.Products.{power-difference, product-between}
 use Rattle.luminance.proofs.Storables.{unitRatio, Storable, StoresAs}
@@ -89,13 +90,16 @@ module _ (t : Tone) (y : Stored) (tone : IsTone t) (luminance : IsLuminance y) w
   pub scaled-stores : StoresAs exact (scaledOf t y)
   scaled-stores = stores-alike (scaled-storable .in-range) equal positive
 
-  -- "E is 1 to 246."
-  pub is-scaled : IsScaled (scaledOf t y)
-  is-scaled =
+  range : IsScaled (scaledOf t y)
+  range =
       let s = in-range (scaled-storable .in-range) in
       subst IsScaled scaled-stored
       (record {
         least = omega (arith, above-down s 128 .1 (above 128 tt));
         most = omega (arith, at-most-up s 118 .1 (at-most 118 tt));
-        mantissa = promised s .mantissa;
+        mantissa = is-mantissa s;
       })
+
+-- "E is 1 to 246."
+pub is-scaled : ScaledInRange
+is-scaled t y tone luminance = range t y tone luminance

@@ -1,16 +1,41 @@
--- The second half of demand 3, as a claim about one pixel: a level against the exact value. Assumes nothing.
--- It is proved in proofs/PixelBounds.antt, `level-bound`.
+-- Claims about the steps of one pixel: where the scaled luminance lies, that no half is rounded below 255, and the second half of demand 3,
+-- a level against the exact value. Assumes nothing.
+-- Proved as `is-scaled` (proofs/Scaled.antt), `no-half` (proofs/Halves.antt), `level-bound` (proofs/PixelBounds.antt).
 use mathlib.Core.Path.{_≡_}
 use mathlib.Core.Logic.{_⊎_}
-use Prim.Native.Nat.{ℕ, _+_, _*_, _<_, min}
-use Rattle.number.proofs.Laws.{Frac, _over_, _·_, _÷_, _times_, worthOf}
+use Prim.Native.Nat.{ℕ, _+_, _*_, _≤_, _<_, min}
+use Rattle.number.proofs.Laws.{Frac, _over_, _·_, _÷_, _times_, IsMantissa, storedWorth, worthOf}
 use Rattle.number.specs.declared.channel.Channel.{Channel}
+use Rattle.number.specs.declared.channel.Channel.the-variants.{Lit}
 use Rattle.number.specs.declared.channel.Pixel.{Pixel}
 use Rattle.number.specs.declared.ratio.Stored.{Stored}
-use Rattle.luminance.specs.Pixels.{IsPixel, exactLuminance, luminanceOf}
+use Rattle.luminance.specs.Pixels.{IsPixel, exactLuminance, luminanceOf, IsLuminance}
 use Rattle.luminance.specs.declared.pixel.Luminance.{Luminance}
 use Rattle.tone.specs.declared.tone.Tone.{Tone}
-use Rattle.tone.specs.Levels.{IsTone, keyOverAverage, reinhard, mappedLevel}
+use Rattle.tone.specs.Levels.{IsTone, keyOverAverage, scaledOf, reinhard, mappedLevel}
+
+-- ---- the scaled luminance, under every key and stored average: "E is 1 to 246."
+
+pub record IsScaled (l : Stored) : Type 0 where
+  pub least : 1 ≤ l .exponent
+  pub most : l .exponent ≤ 246
+  pub mantissa : IsMantissa (l .mantissa)
+
+abbrev pub ScaledInRange : Type 0
+ScaledInRange = (t : Tone) (y : Stored) → IsTone t → IsLuminance y → IsScaled (scaledOf t y)
+
+-- ---- "to the nearest whole number, halves up, at most 255": a half comes out only where the level is 255 whichever way it is rounded
+
+-- x is n + 1/2
+pub record IsHalf (n : ℕ) (x : Frac) : Type 0 where
+  pub cross : 2 * x .num ≡ (2 * n + 1) * x .den
+
+-- what step 6 rounds, of any display luminance d, luminance y and lit channel (E, M)
+abbrev pub NoHalfBelow255 : Type 0
+NoHalfBelow255 = (d y : Stored) (E M : ℕ) → IsMantissa (d .mantissa) → IsMantissa (y .mantissa) → IsMantissa M
+    → (n : ℕ) → IsHalf n (255 times storedWorth d · worthOf (Lit E M) ÷ storedWorth y) → 255 ≤ n
+
+-- ---- the second half of demand 3
 
 -- x, "or 255 where that is greater"
 abbrev pub atMost255 : Frac → Frac

@@ -1,6 +1,6 @@
 -- Steps 4 to 6: scaled luminance, display luminance, level. Assumes nothing.
 use Prim.Native.Nat.{ℕ, _+_, _*_, _/_, _≤_, min}
-use Rattle.number.proofs.Laws.{Frac, _over_, _·_, _÷_, _times_, IsMantissa, storedWorth, worthOf, storedOf}
+use Rattle.number.proofs.Laws.{Frac, _over_, _·_, _÷_, _times_, storedWorth, worthOf, storedOf}
 use Rattle.number.specs.declared.channel.Channel.{Channel}
 use Rattle.number.specs.declared.ratio.Stored.{Stored}
 use Rattle.average.specs.Averages.{IsStoredAverage}
@@ -23,12 +23,6 @@ keyOverAverage t = (t .key over 1000) ÷ storedWorth (t .average)
 -- "Scaled luminance: K/1000 times luminance over average (both decoded), stored."
 abbrev pub scaledOf : (t : Tone) (y : Stored) → Stored
 scaledOf t y = storedOf (keyOverAverage t · storedWorth y)
-
--- "E is 1 to 246."
-pub record IsScaled (l : Stored) : Type 0 where
-  pub least : 1 ≤ l .exponent
-  pub most : l .exponent ≤ 246
-  pub mantissa : IsMantissa (l .mantissa)
 
 -- "L/(1+L)"
 abbrev pub reinhard : Frac → Frac

@@ -2,7 +2,8 @@
 ghost use mathlib.Core.Path.{_≡_};
 ghost use Prim.Native.Nat.{_*_, _^_, _≤_, _<_};
 ghost use Rattle.number.proofs.Laws.{_over_, IsMantissa, unit, storedOf};
-ghost use Rattle.tone.specs.Levels.{IsTone, scaledOf, IsScaled, reinhard, displayOf, displayUnder};
+ghost use Rattle.tone.specs.Levels.{IsTone, scaledOf, reinhard, displayOf, displayUnder};
+ghost use Rattle.tone.specs.Claims.{IsScaled};
 ghost use Rattle.tone.specs.loops.ScaledTables.{scaledCode, IsScaledTable};
 ghost use Rattle.luminance.specs.Pixels.{IsLuminance};
 use crate::tone::Tone;

@@ -5,7 +5,8 @@ use native.Mathlib.Nat.{add-sub-of-le}
 use native.Mathlib.Omega.{arith}
 use lib.ListN.{getD}
 use borrow.Author.Needs.{needs}
-use Rattle.tone.specs.Levels.{scaledOf, IsScaled, reinhard, displayOf}
+use Rattle.tone.specs.Levels.{scaledOf, reinhard, displayOf}
+use Rattle.tone.specs.Claims.{IsScaled}
 use Rattle.tone.specs.loops.ScaledTables.{scaledCode}
 use Rattle.tone.proofs.Scaled.{is-scaled}
 use Rattle.tone.proofs.ScaledTables.{Moved, scaled-moved}

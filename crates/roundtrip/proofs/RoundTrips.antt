@@ -45,9 +45,9 @@ use Rattle.convert.specs.Formats.{
   rgbePixels,
   decodedSource,
 }
 use Rattle.convert.specs.Converting.{checkFrame, checkSource, converted}
-use Rattle.convert.specs.Claims.{Yields, ReadsBack, WritesAgain, ConvertsByCodes}
+use Rattle.roundtrip.specs.Claims.{Yields, ReadsBack, WritesAgain, ConvertsByCodes}
 use Rattle.convert.proofs.Pages.{Page, page, channel-count}
 
 -- ---- every channel of an accepted source is one
 
@@ -108,7 +108,7 @@ page-yields h cs p =
 
 pub reads-back : ReadsBack
 reads-back f h xs room accepted =
-    rw (← all-held (decodedSource f xs) (parts f h xs room accepted .1))
+    subst (Yields (converted f h xs) h) (all-held (decodedSource f xs) (parts f h xs room accepted .1))
     (page-yields h (channelsOf (decodedSource f xs)) (is-page f h xs room accepted))
 
 -- ---- a page's channels as codes

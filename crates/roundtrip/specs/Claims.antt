@@ -1,5 +1,5 @@
 -- What reading and writing a strip are to each other: claims about the definitions that the contracts cite. Assumes nothing.
--- Each is proved in proofs/RoundTrip.antt: `reads-back`, `writes-again`, `converts-by-codes`.
+-- Each is proved in proofs/RoundTrips.antt: `reads-back`, `writes-again`, `converts-by-codes`.
 use Prim.Native.Nat.{ℕ, _*_, _≤_}
 use mathlib.Core.Path.{_≡_}
 use mathlib.Core.List.{List, map}

@@ -1,0 +1,1 @@
+// No code: the claims of specs/ and their proofs.
