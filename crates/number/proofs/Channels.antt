@@ -30,6 +30,7 @@ use Rattle.number.specs.declared.channel.Channel.the-variants.{Black, Li
 use Rattle.number.specs.declared.channel.Decoded.{Decoded}
 use Rattle.number.specs.declared.channel.Decoded.the-variants.{Holds, Refuses}
 use Rattle.number.specs.declared.ratio.Stored.{Stored}
+use Rattle.refusal.specs.declared.Refusal.{Refusal}
 use Rattle.refusal.specs.declared.Refusal.the-variants.{TooBright, InvalidChannel}
 use Rattle.number.proofs.Scaling.{denominator-pos, rescale, above-down, at-most-up, is-mantissa}
 use Rattle.number.proofs.Storing.{unit-pos, stored-as, stored, code-order}
@@ -120,6 +121,17 @@ code-channel (Lit E M) t =
       le-leb E greatestExponent (t .most),
       le-leb leastMantissa M (t .mantissa .least),
     )
+
+-- what is refused is so by 8 alone
+pub code-refused : (n : ℕ) (r : Refusal) → channelOfCode n ≡ Refuses r → r ≡ InvalidChannel
+unfolding channelOfCode
+code-refused n r h = go (eqb n 0) (leb leastExponent (n / 256) && leb (n / 256) greatestExponent && leb leastMantissa (n % 256)) h
+  where
+    go : (z b : Bool) → cond z (Holds Black) (cond b (Holds (Lit (n / 256) (n % 256))) (Refuses InvalidChannel)) ≡ Refuses r
+        → r ≡ InvalidChannel
+    go true b q = cc
+    go false true q = cc
+    go false false q = cc
 
 pub channel-code : (n : ℕ) (c : Channel) → channelOfCode n ≡ Holds c → Coded n c
 unfolding channelOfCode

@@ -1,14 +1,17 @@
--- What reading and writing a strip are to each other: claims about the definitions that the contracts cite. Assumes nothing.
--- Each is proved in proofs/RoundTrips.antt: `reads-back`, `writes-again`, `converts-by-codes`.
-use Prim.Native.Nat.{ℕ, _*_, _≤_}
+-- What reading and writing a strip are to each other, and what a row of stored channels can be refused by: claims about the definitions that
+-- the contracts cite. Assumes nothing.
+-- Proved as `reads-back`, `writes-again`, `converts-by-codes` (proofs/RoundTrips.antt) and `gives-eight` (proofs/StoredRows.antt).
+use Prim.Native.Nat.{ℕ, _*_, _≤_, _<_}
 use mathlib.Core.Path.{_≡_}
 use mathlib.Core.List.{List, map}
 use lib.ListN.{length}
 use Rattle.number.specs.declared.channel.Decoded.{Decoded}
-use Rattle.refusal.specs.declared.Verdict.the-variants.{Accepted}
+use Rattle.refusal.specs.declared.Refusal.{Refusal}
+use Rattle.refusal.specs.declared.Verdict.the-variants.{Accepted, Refused}
+use Rattle.refusal.specs.Refusals.{_at_, outcomeOf}
 use Rattle.word.specs.declared.header.Header.{Header}
 use Rattle.word.specs.Words.{pixels, stripLength}
-use Rattle.word.specs.Placing.{decodedOf}
+use Rattle.word.specs.Placing.{decodedOf, firstRefusal}
 use Rattle.strip.specs.declared.read.HeaderOrRefusal.{HeaderOrRefusal}
 use Rattle.strip.specs.Checks.{headerFields, decodedBody, checkStrip, checkOutput}
 use Rattle.strip.specs.Reading.{readHeader, stripChannels, stripCodes}
@@ -48,3 +51,11 @@ pub record ByCodes (f : Format) (h : Header) (xs : List ℕ) (room : ℕ) : Type
 
 abbrev pub ConvertsByCodes : Type 0
 ConvertsByCodes = (f : Format) (h : Header) (xs : List ℕ) (room : ℕ) → checkSource f h xs room ≡ Accepted → ByCodes f h xs room
+
+-- "elements in order, 5 before 6; a stored row can only give 8 there", at the index of an element
+pub record EightAt (r : Refusal) (i count : ℕ) : Type 0 where
+  pub outcome : outcomeOf r i ≡ 8 at i
+  pub within : i < count
+
+abbrev pub GivesEight : Type 0
+GivesEight = (xs : List ℕ) (r : Refusal) (i : ℕ) → firstRefusal (decodedSource stored xs) ≡ Refused r i → EightAt r i (length xs)

@@ -1,10 +1,10 @@
--- Claims about the steps of one pixel: where the scaled luminance lies, that no half is rounded below 255, and the second half of demand 3,
--- a level against the exact value. Assumes nothing.
--- Proved as `is-scaled` (proofs/Scaled.antt), `no-half` (proofs/Halves.antt), `level-bound` (proofs/PixelBounds.antt).
+-- Claims about the steps of one pixel: where the scaled luminance lies, that the steps store by the rule, that no half is rounded below 255,
+-- and the second half of demand 3, a level against the exact value. Assumes nothing.
+-- Proved as `is-scaled` (proofs/Scaled.antt), `no-half` (proofs/Halves.antt), `steps-store` and `level-bound` (proofs/PixelBounds.antt).
 use mathlib.Core.Path.{_≡_}
 use mathlib.Core.Logic.{_⊎_}
 use Prim.Native.Nat.{ℕ, _+_, _*_, _≤_, _<_, min}
-use Rattle.number.proofs.Laws.{Frac, _over_, _·_, _÷_, _times_, IsMantissa, storedWorth, worthOf}
+use Rattle.number.proofs.Laws.{Frac, _over_, _·_, _÷_, _times_, IsMantissa, Stores, storedWorth, worthOf}
 use Rattle.number.specs.declared.channel.Channel.{Channel}
 use Rattle.number.specs.declared.channel.Channel.the-variants.{Lit}
 use Rattle.number.specs.declared.channel.Pixel.{Pixel}
@@ -12,7 +12,7 @@ use Rattle.number.specs.declared.ratio.Stored.{Stored}
 use Rattle.luminance.specs.Pixels.{IsPixel, exactLuminance, luminanceOf, IsLuminance}
 use Rattle.luminance.specs.declared.pixel.Luminance.{Luminance}
 use Rattle.tone.specs.declared.tone.Tone.{Tone}
-use Rattle.tone.specs.Levels.{IsTone, keyOverAverage, scaledOf, reinhard, mappedLevel}
+use Rattle.tone.specs.Levels.{IsTone, keyOverAverage, scaledOf, reinhard, displayUnder, mappedLevel}
 
 -- ---- the scaled luminance, under every key and stored average: "E is 1 to 246."
 
@@ -23,6 +23,20 @@ pub record IsScaled (l : Stored) : Type 0 where
 
 abbrev pub ScaledInRange : Type 0
 ScaledInRange = (t : Tone) (y : Stored) → IsTone t → IsLuminance y → IsScaled (scaledOf t y)
+
+-- ---- "stored as above", "stored": the outcomes of steps 1, 4 and 5 are stored by the rule, as none of them is too small for it
+
+abbrev pub StoredAs : (F : Frac) (s : Stored) → Type 0
+StoredAs F s = Stores F (s .exponent) (s .mantissa)
+
+-- of a pixel with the luminance y
+pub record StoredSteps (t : Tone) (p : Pixel) (y : Stored) : Type 0 where
+  pub luminance : StoredAs (exactLuminance p) y
+  pub scaled : StoredAs (keyOverAverage t · storedWorth y) (scaledOf t y)
+  pub display : StoredAs (reinhard (storedWorth (scaledOf t y))) (displayUnder t y)
+
+abbrev pub StepsStore : Type 0
+StepsStore = (p : Pixel) → IsPixel p → (y : Stored) → luminanceOf p ≡ Luminance.Lit y → (t : Tone) → IsTone t → StoredSteps t p y
 
 -- ---- "to the nearest whole number, halves up, at most 255": a half comes out only where the level is 255 whichever way it is rounded
 
