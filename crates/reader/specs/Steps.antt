@@ -2,13 +2,16 @@
 -- "A page reader keeps the lent strip and walks it pixel by pixel"
 use Prim.Native.Nat.{ℕ, _+_}
 use mathlib.Core.Bool.{Bool, cond, _&&_}
-use mathlib.Core.List.{List}
+use mathlib.Core.List.{List, [], _∷_}
+use lib.IntN.{pos}
 use lib.ListN.{length}
 use lib.Dec.{ltb, eqb}
 use denote.Ref.{RefT, now}
 use Rattle.number.specs.declared.channel.Pixel.{Pixel as PixelType}
+use Rattle.number.specs.Channels.{codeOf}
 use Rattle.refusal.specs.declared.Verdict.{Verdict}
 use Rattle.refusal.specs.declared.Verdict.the-variants.{Accepted, Refused}
+use Rattle.refusal.specs.Told.{Told, holding, refusing}
 use Rattle.word.specs.Words.{bodyStart}
 use Rattle.word.specs.Pixels.{pixelOf, wordChannel}
 use Rattle.strip.specs.Checks.{wordAt, headerFields, checkStrip}
@@ -41,6 +44,13 @@ stepUnder (Refused r i) = Refuses r i
 
 unfoldable pub stepAt : List ℕ → (position : ℕ) → Step
 stepAt s p = cond (pixelBegins (length s) p) (Pixel (pixelFrom s p)) (cond (eqb p 0) (stepUnder (checkStrip s)) PageOver)
+
+-- "this paper's number and values for each of its cases": of a pixel, that the page is not over (0), and its channels as 16-bit numbers; then
+-- that it is over (1)
+abbrev pub stepTold : Step → Told
+stepTold (Pixel p) = holding (pos 0 ∷ pos (codeOf (p .red)) ∷ pos (codeOf (p .green)) ∷ pos (codeOf (p .blue)) ∷ [])
+stepTold PageOver = holding (pos 1 ∷ [])
+stepTold (Refuses r i) = refusing r i
 
 unfoldable pub positionAfter : List ℕ → (position : ℕ) → ℕ
 positionAfter s p = cond (pixelBegins (length s) p) (p + 3) p

@@ -3,7 +3,7 @@
 mod steps;
 
 ghost use mathlib.Core.Path.{_≡_};
-ghost use Rattle.reader.specs.Steps.{openedOf, stepOf, movedOf};
+ghost use Rattle.reader.specs.Steps.{openedOf, stepOf, stepTold, movedOf};
 ghost use Rattle.reader.specs.Claims.{AnswersFor};
 use crate::steps::position_after;
 use crate::steps::start_of;
@@ -37,7 +37,7 @@ pub fn open<'a>(strip: &'a [u32]) -> PageReader<'a>
 
 // One step: the answer, and the reader moved on.
 pub fn next<'s, 'a>(reader: &'s mut PageReader<'a>) -> Step
-    ensures { λ r. ⌜ (r ≡ stepOf (now (reader .entry))) × (now (reader .exit) ≡ movedOf (now (reader .entry))) ⌝ }
+    ensures { λ r. ⌜ (r ≡ stepOf (now (reader .entry))) × (stepTold r ≡ stepTold (stepOf (now (reader .entry)))) × (now (reader .exit) ≡ movedOf (now (reader .entry))) ⌝ }
 {
     let strip = reader.strip;
     let position = reader.position;
