@@ -2,7 +2,7 @@
 use Prim.Native.Nat.{ℕ, zero, suc, _-_}
 use mathlib.Core.Path.{_≡_}
 use mathlib.Core.List.{List, [], _∷_, _++_, map}
-use lib.ListN.{length, take, replicate}
+use lib.ListN.{length, getD, take, replicate}
 use denote.Ref.{RefT, now}
 use Rattle.number.specs.declared.channel.Pixel.{Pixel as PixelType}
 use Rattle.refusal.specs.declared.Verdict.{Verdict}
@@ -24,6 +24,14 @@ answersOf (suc n) r = stepOf r ∷ answersOf n (movedOf r)
 abbrev pub answersUnder : Verdict → (n : ℕ) → List PixelType → List Step
 answersUnder Accepted n ps = take n (map Pixel ps) ++ replicate (n - length ps) PageOver
 answersUnder (Refused r i) n ps = replicate n (Refuses r i)
+
+-- the answer of step n alone, counted from 0
+abbrev pub numberUnder : Verdict → (n : ℕ) → List PixelType → Step
+numberUnder Accepted n ps = getD (map Pixel ps) n PageOver
+numberUnder (Refused r i) n ps = Refuses r i
+
+unfoldable pub stepNumber : List ℕ → (n : ℕ) → Step
+stepNumber s n = numberUnder (checkStrip s) n (stripPixels s)
 
 -- a reader that answers so for a strip of these words, whatever the number of steps
 abbrev pub AnswersFor : List ℕ → PageReader → Type 0

@@ -1,6 +1,6 @@
 -- What a page reader is, and what a step makes of it. Assumes nothing.
 -- "A page reader keeps the lent strip and walks it pixel by pixel"
-use Prim.Native.Nat.{ℕ, _+_}
+use Prim.Native.Nat.{ℕ, _+_, _/_, min}
 use mathlib.Core.Bool.{Bool, cond, _&&_}
 use mathlib.Core.List.{List, [], _∷_}
 use lib.IntN.{pos}
@@ -45,8 +45,8 @@ stepUnder (Refused r i) = Refuses r i
 unfoldable pub stepAt : List ℕ → (position : ℕ) → Step
 stepAt s p = cond (pixelBegins (length s) p) (Pixel (pixelFrom s p)) (cond (eqb p 0) (stepUnder (checkStrip s)) PageOver)
 
--- "this paper's number and values for each of its cases": of a pixel, that the page is not over (0), and its channels as 16-bit numbers; then
--- that it is over (1)
+-- "this paper's number and values for each of its cases": first whether the page is over (1) or not (0), then a pixel's channels as 16-bit
+-- numbers
 abbrev pub stepTold : Step → Told
 stepTold (Pixel p) = holding (pos 0 ∷ pos (codeOf (p .red)) ∷ pos (codeOf (p .green)) ∷ pos (codeOf (p .blue)) ∷ [])
 stepTold PageOver = holding (pos 1 ∷ [])
@@ -54,6 +54,15 @@ stepTold (Refuses r i) = refusing r i
 
 unfoldable pub positionAfter : List ℕ → (position : ℕ) → ℕ
 positionAfter s p = cond (pixelBegins (length s) p) (p + 3) p
+
+-- as many of n steps as make a difference: a reader of a refused strip stays where it is, any other does once its pixels are told, which
+-- have three words each
+abbrev pub stepsUnder : Verdict → List ℕ → (n : ℕ) → ℕ
+stepsUnder Accepted s n = min n (length s / 3)
+stepsUnder (Refused r i) s n = 0
+
+abbrev pub stepsBefore : List ℕ → (n : ℕ) → ℕ
+stepsBefore s n = stepsUnder (checkStrip s) s n
 
 -- ---- on readers
 
