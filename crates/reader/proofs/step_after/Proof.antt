@@ -23,10 +23,11 @@ use prog.Wp.{Heap, Out, Env, afterSeq, afterBlock, afterTurn, Calls, Loops, Wp, 
 use ghost.Atoms.{Atoms, sem}
 use contract.Monad.{Fun, fact}
 use contract.Running.{givenOf, tables, tablesOf}
-use types.Kit.{Given, Item, ‵, raw, _⊛_, ⋆, some, later, runs, anyQ, atRet, Sq, _$_, _∵_, !, qed, by, move, keep, drop, use1, use2, split, join}
-use types.Kit.{learn, pick, fsplit, fjoin, suffices, frame, await, done, rewrite}
+use types.Kit.{Given, Item, ‵, raw, _⊛_, ⋆, some, later, runs, anyQ, atRet, Sq, _$_, _∵_, !, qed, by, move, keep, drop, use1, use2, split}
+use types.Kit.{join, learn, pick, fsplit, fjoin, suffices, frame, await, done, rewrite}
 use types.Run.{look, store, init, forget, stop, from, load, lit, addr, of-opd, bin, and-then, no-more, assigns, assigns-last, land, first}
-use types.Run.{skips, jumps, blocks, branches, returns, enter, alloc1, alloc0, params1, pass1, pass0, free1, free0, exec, Below, again, loops}
+use types.Run.{skips, jumps, blocks, branches, returns, enter, alloc1, alloc0, params1, pass1, pass0, free1, free0, exec}
+use types.Run.{Below, again, loops}
 use sound.WpLaws.{FmC, fmOf, WpFn-mono}
 use denote.RattleType.{owns}
 use denote.Laws.{Typed, Is, shows}
@@ -140,7 +141,8 @@ module _ {M : Type 1} (𝓤 : URA M) (H : Heap 𝓤) (A : Atoms 𝓤) (W : Given
     apart =
         qed W (token ∷ ‵ (owns (ShrSlice (named 0) κ u32 ∷ u64 ∷ []) args at) ∷ []) ∵
         move ! (1 ∷ []) $ fsplit ! $ use1 W (‵ Own ⊛ ‵ Own) (shr-slice-copy 𝓤 H A W (named 0) κ u32 .twice s (v ∷ [])) $ split ! $
-        nothing ! $ move ! (1 ∷ 0 ∷ []) $ fjoin ! $ move ! (3 ∷ 0 ∷ []) $ use2 W (raw (Open .pre to-open)) asked $ frame ! $ keep ! (0 ∷ []) $ done !
+        nothing ! $ move ! (1 ∷ 0 ∷ []) $ fjoin ! $ move ! (3 ∷ 0 ∷ []) $ use2 W (raw (Open .pre to-open)) asked $ frame ! $
+        keep ! (0 ∷ []) $ done !
 
     abbrev Opened : PageReader → Type 0
     Opened r = (r ≡ openedOf s) × AnswersFor (now s) r
@@ -160,12 +162,14 @@ module _ {M : Type 1} (𝓤 : URA M) (H : Heap 𝓤) (A : Atoms 𝓤) (W : Given
 
     -- ---- the exit
 
-    exits : (r : Step) (u : Val) → r ≡ stepNumber (now s) m → ent 𝓤 (⋆ 𝓤 H A (‵ (S.the-row .own r (u ∷ [])) ∷ ‵ (flft κ q) ∷ ‵ Own ∷ [])) (Post u)
+    exits : (r : Step) (u : Val) → r ≡ stepNumber (now s) m
+        → ent 𝓤 (⋆ 𝓤 H A (‵ (S.the-row .own r (u ∷ [])) ∷ ‵ (flft κ q) ∷ ‵ Own ∷ [])) (Post u)
     exits r u e =
         qed W (‵ (S.the-row .own r (u ∷ [])) ∷ ‵ (flft κ q) ∷ ‵ Own ∷ []) ∵
-        suffices ! _ (ends-at 𝓤 H A after.ended stayed (after.clauses 𝓤 H A at-mem run) W ghosts u r (tt, (tt, tt)) (tt, (tt, tt))) $ says ! e $
-        nothing ! $ move ! (2 ∷ 0 ∷ []) $ join ! $ frame ! $
-        nothing ! $ owned ! u64 (Is u64) (uint-makes 𝓤 H A W w64) m _ (refl, m-fits) $ fjoin ! $ move ! (2 ∷ 0 ∷ []) $ fjoin ! $ frame ! $ done !
+        suffices ! _ (ends-at 𝓤 H A after.ended stayed (after.clauses 𝓤 H A at-mem run) W ghosts u r (tt, (tt, tt)) (tt, (tt, tt))) $
+        says ! e $ nothing ! $ move ! (2 ∷ 0 ∷ []) $ join ! $ frame ! $
+        nothing ! $ owned ! u64 (Is u64) (uint-makes 𝓤 H A W w64) m _ (refl, m-fits) $ fjoin ! $ move ! (2 ∷ 0 ∷ []) $ fjoin ! $ frame ! $
+        done !
 
     -- ---- the loop: its variant is what is left of the m steps
 
@@ -221,6 +225,7 @@ module _ {M : Type 1} (𝓤 : URA M) (H : Heap 𝓤) (A : Atoms 𝓤) (W : Given
 
         -- ---- before a turn
 
+        -- room for a local that holds nothing
         abbrev idle : Ty → ℕ → List (Item 𝓤) → List (Item 𝓤)
         idle t l Γ = ‵ (froom t l 0) ∷ ‵ (fdies t l) ∷ Γ
 
@@ -240,6 +245,7 @@ module _ {M : Type 1} (𝓤 : URA M) (H : Heap 𝓤) (A : Atoms 𝓤) (W : Given
         unfolding afterTurn
         turns i =
             let h = after-steps (i .0) in
+            -- [the reader; room for _9; …; _8; …; _7; …; _6; …; _5; …; k; …; that _3 dies; m; …; the strip; …; room for _0; …; what it owns]
             assigns ! (bin ! (load ! (from ! (stop !)) (look ! 11 refl)) (load ! (from ! (stop !)) (look ! 14 refl)) tt) (from ! (stop !))
             (init ! 7 refl (tt, tt)) $
             first ! $ branches ! (load ! (from ! (stop !)) (look ! 7 refl))
@@ -249,10 +255,10 @@ module _ {M : Type 1} (𝓤 : URA M) (H : Heap 𝓤) (A : Atoms 𝓤) (W : Given
             use1 W (Lent h) (loan.lends 𝓤 H A W at-mem run κ q l₃ h) $ await ! tt $ pick ! (λ α. pick ! (λ δ. split ! $
             calls-at ! fm Next known-next (to-next h α δ) (and-then ! (load ! (from ! (stop !)) (look ! 4 refl)) (no-more !)) (λ u.
             use2 W (Back h u) (loan.back 𝓤 H A W at-mem run κ q l₃ h α δ u) $ await ! tt $ pick ! (λ r. learn ! (λ e. split ! $
-            peeks ! S.the-row (Is S.the-row) (shows 𝓤 H A S.the-row) r (u ∷ []) (λ told.
-            land ! (from ! (stop !)) (init ! 6 refl (EL.lawful S.the-type S′.the-laws 𝓤 H A W tt .typed r _ told .0)) $ drop ! $
-            assigns-last ! (bin ! (load ! (from ! (stop !)) (look ! 11 refl)) (lit ! tt) (record { fits = fits (further i less) })) (from ! (stop !))
-            (store ! 11 refl (tt, record { fits = fits (further i less) })) $
+            peeks ! S.the-row (Is S.the-row) (shows 𝓤 H A S.the-row) r (u ∷ []) (λ is.
+            land ! (from ! (stop !)) (init ! 6 refl (EL.lawful S.the-type S′.the-laws 𝓤 H A W tt .typed r _ is .0)) $ drop ! $
+            assigns-last ! (bin ! (load ! (from ! (stop !)) (look ! 11 refl)) (lit ! tt) (record { fits = fits (further i less) }))
+            (from ! (stop !)) (store ! 11 refl (tt, record { fits = fits (further i less) })) $
             forget ! 3 refl $ forget ! 5 refl $ forget ! 7 refl $ rewrite ! 0 Held (one-more (i .0)) refl $
             again ! Nearer At i (further i less) (add-one-dec m (i .0) (ltb→lt (i .0) m less)))))))))
             -- the last step
@@ -261,15 +267,16 @@ module _ {M : Type 1} (𝓤 : URA M) (H : Heap 𝓤) (A : Atoms 𝓤) (W : Given
             use1 W (Lent h) (loan.lends 𝓤 H A W at-mem run κ q l₃ h) $ await ! tt $ pick ! (λ α. pick ! (λ δ. split ! $
             calls-at ! fm Next known-next (to-next h α δ) (and-then ! (load ! (from ! (stop !)) (look ! 2 refl)) (no-more !)) (λ u.
             use2 W (Back h u) (loan.back 𝓤 H A W at-mem run κ q l₃ h α δ u) $ await ! tt $ pick ! (λ r. learn ! (λ e. split ! $
-            peeks ! S.the-row (Is S.the-row) (shows 𝓤 H A S.the-row) r (u ∷ []) (λ told.
-            land ! (from ! (stop !)) (init ! 19 refl (EL.lawful S.the-type S′.the-laws 𝓤 H A W tt .typed r _ told .0)) $
+            peeks ! S.the-row (Is S.the-row) (shows 𝓤 H A S.the-row) r (u ∷ []) (λ is.
+            land ! (from ! (stop !)) (init ! 19 refl (EL.lawful S.the-type S′.the-laws 𝓤 H A W tt .typed r _ is .0)) $
             move ! (1 ∷ []) $ split ! $ move ! (1 ∷ []) $ split ! $ drop ! $
             -- [the token; _3; the result; _9; …; that _3 dies; …; _0; …; what the strip owns]
             returns ! (look ! 20 refl) $ forget ! 1 refl $ forget ! 3 refl $ forget ! 9 refl $ forget ! 13 refl $ forget ! 16 refl $
             forget ! 18 refl $ forget ! 20 refl $
-            move ! (20 ∷ 21 ∷ []) $ free1 ! $ move ! (18 ∷ 19 ∷ []) $ free1 ! $ move ! (16 ∷ 17 ∷ []) $ free1 ! $ move ! (1 ∷ 15 ∷ []) $ free1 ! $
-            move ! (12 ∷ 13 ∷ []) $ free1 ! $ move ! (10 ∷ 11 ∷ []) $ free1 ! $ move ! (8 ∷ 9 ∷ []) $ free1 ! $ move ! (6 ∷ 7 ∷ []) $ free1 ! $
-            move ! (4 ∷ 5 ∷ []) $ free1 ! $ move ! (2 ∷ 3 ∷ []) $ free1 ! $ free0 ! $ move ! (1 ∷ 0 ∷ []) $ by ! (exits r u (reached i over e)))))))))
+            move ! (20 ∷ 21 ∷ []) $ free1 ! $ move ! (18 ∷ 19 ∷ []) $ free1 ! $ move ! (16 ∷ 17 ∷ []) $ free1 ! $
+            move ! (1 ∷ 15 ∷ []) $ free1 ! $ move ! (12 ∷ 13 ∷ []) $ free1 ! $ move ! (10 ∷ 11 ∷ []) $ free1 ! $
+            move ! (8 ∷ 9 ∷ []) $ free1 ! $ move ! (6 ∷ 7 ∷ []) $ free1 ! $ move ! (4 ∷ 5 ∷ []) $ free1 ! $
+            move ! (2 ∷ 3 ∷ []) $ free1 ! $ free0 ! $ move ! (1 ∷ 0 ∷ []) $ by ! (exits r u (reached i over e)))))))))
 
       walk : Typed (ShrSlice (named 0) κ u32 .mir) (v ∷ []) → ent 𝓤 Entry (WpFn 𝓤 H C Λ code.function (v ∷ vint w64 m ∷ []) Post)
       walk strip-typed =

@@ -13,7 +13,8 @@ returns : tie.Need-returns
 returns c =
     let b = c .before in
     let a = b .before .before .args in
-    also stepTold (c .step-after .ensures ∙ ap (stepNumber (now (a .strip))) (b .steps-before .ensures) ∙ same-number (now (a .strip)) (a .n))
+    let s = now (a .strip) in
+    also stepTold (c .step-after .ensures ∙ ap (stepNumber s) (b .steps-before .ensures) ∙ same-number s (a .n))
 
 pub step-number-spec : {M : Type 1} → statement M
 step-number-spec = tie.close (tie.spec (λ c κs. search needs) (λ c κs. search needs) returns)
