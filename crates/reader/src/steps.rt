@@ -64,8 +64,8 @@ fn lesser(a: u64, b: u64) -> u64
 pub fn steps_before(strip: &[u32], n: u64) -> u64
     ensures { λ r. ⌜ r ≡ stepsBefore (now (strip .entry)) n ⌝ }
 {
-    match check(strip) {
-        Verdict::Accepted => lesser(n, (strip.len() / 3) as u64),
-        Verdict::Refused(_, _) => 0,
-    }
+    let Verdict::Accepted = check(strip) else {
+        return 0;
+    };
+    lesser(n, (strip.len() / 3) as u64)
 }

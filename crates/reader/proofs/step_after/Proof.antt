@@ -245,7 +245,7 @@ module _ {M : Type 1} (𝓤 : URA M) (H : Heap 𝓤) (A : Atoms 𝓤) (W : Given
         unfolding afterTurn
         turns i =
             let h = after-steps (i .0) in
-            -- [the reader; room for _9; …; _8; …; _7; …; _6; …; _5; …; k; …; that _3 dies; m; …; the strip; …; room for _0; …; what it owns]
+            -- [the reader; room for _9; …; _8; …; _7; …; _6; …; _5; …; k; …; that _3 dies; m; …; the strip; …; room for _0; …; its own]
             assigns ! (bin ! (load ! (from ! (stop !)) (look ! 11 refl)) (load ! (from ! (stop !)) (look ! 14 refl)) tt) (from ! (stop !))
             (init ! 7 refl (tt, tt)) $
             first ! $ branches ! (load ! (from ! (stop !)) (look ! 7 refl))
