@@ -1,5 +1,5 @@
 -- One step of a run alone: the last answer of a run, and the steps that make no difference. Assumes nothing.
-use Prim.Native.Nat.{ℕ, zero, suc, _/_, _≤_, min}
+use Prim.Native.Nat.{ℕ, zero, suc, _≤_, min}
 use mathlib.Core.Path.{_≡_, refl, sym, ap, _∙_}
 use mathlib.Core.List.{List, [], _∷_, _++_, map}
 use native.Mathlib.Nat.{sub-zero, suc-sub-suc, zero-min, suc-min-suc}
@@ -65,7 +65,7 @@ same-under : (v : Verdict) (s : List ℕ) → checkStrip s ≡ v → (n : ℕ)
     → numberUnder v (stepsUnder v s n) (stripPixels s) ≡ numberUnder v n (stripPixels s)
 same-under Accepted s e n =
     let ok = whole-strip s e in
-    beyond n (length s / 3) (map Pixel (stripPixels s)) (omega (arith, ok .head .long, length-map (stripPixels s) Pixel, count-pixels s ok))
+    beyond n _ (map Pixel (stripPixels s)) (omega (arith, ok .head .long, length-map (stripPixels s) Pixel, count-pixels s ok))
 same-under (Refused r i) s e n = refl
 
 pub same-number : (s : List ℕ) (n : ℕ) → stepNumber s (stepsBefore s n) ≡ stepNumber s n
