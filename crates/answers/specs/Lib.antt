@@ -1,2 +1,4 @@
 pub mod Answers
 pub mod Claims
+pub mod Steps
+pub mod Values
