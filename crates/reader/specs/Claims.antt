@@ -25,7 +25,7 @@ abbrev pub answersUnder : Verdict → (n : ℕ) → List PixelType → List Step
 answersUnder Accepted n ps = take n (map Pixel ps) ++ replicate (n - length ps) PageOver
 answersUnder (Refused r i) n ps = replicate n (Refuses r i)
 
--- the answer of step n alone, counted from 0
+-- the answer of step n alone, counted from 0; proved to be the last of n + 1 answers as `number-of` in proofs/Numbers.antt
 abbrev pub numberUnder : Verdict → (n : ℕ) → List PixelType → Step
 numberUnder Accepted n ps = getD (map Pixel ps) n PageOver
 numberUnder (Refused r i) n ps = Refuses r i
