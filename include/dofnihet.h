@@ -71,6 +71,15 @@ typedef struct {
 typedef struct {
     uint64_t number;
     uint64_t place;
+    uint64_t over;
+    uint64_t red;
+    uint64_t green;
+    uint64_t blue;
+} dofnihet_step;
+
+typedef struct {
+    uint64_t number;
+    uint64_t place;
     uint64_t lit;
     int64_t sum;
     uint64_t present;
@@ -123,6 +132,12 @@ dofnihet_header dofnihet_header_of(const uint32_t *strip, size_t strip_len);
  * They are its red, green and blue words; a refusal has 0 in both.
  * Refuses as dofnihet_check does, with 20 between length and words. */
 dofnihet_row dofnihet_row_of(const uint32_t *strip, size_t strip_len, uint64_t y);
+
+/* Walks a strip pixel by pixel, left to right, top row first, and tells step n of the walk, counted from 0: pixel n while there is one.
+ * `over` is 0 then, with its channels as dofnihet_unpack writes them; behind the last pixel it is 1, with 0 in all three. A refusal has 0
+ * in all four, at every n. Each call walks from the start: dofnihet_unpack and dofnihet_row_of serve a whole page faster.
+ * Refuses as dofnihet_check does. */
+dofnihet_step dofnihet_step_of(const uint32_t *strip, size_t strip_len, uint64_t n);
 
 /* Tallies a strip: number of lit pixels, sum of their steps, average in steps (256 a power of two) and as stored number.
  * `present` is 1 where a pixel is lit, else 0 with 0 in average, exponent and mantissa; a refusal has 0 in all six.

@@ -69,6 +69,12 @@ static void print_row(const char *call, dofnihet_row told)
     printf("%s: %" PRIu64 " %" PRIu64 " %" PRIu64 " %" PRIu64 "\n", call, told.number, told.place, told.start, told.length);
 }
 
+static void print_step(const char *call, dofnihet_step told)
+{
+    printf("%s: %" PRIu64 " %" PRIu64 " %" PRIu64 " %04" PRIX64 " %04" PRIX64 " %04" PRIX64 "\n", call, told.number, told.place, told.over,
+           told.red, told.green, told.blue);
+}
+
 static void print_tally(const char *call, dofnihet_tally told)
 {
     printf("%s: %" PRIu64 " %" PRIu64 " %" PRIu64 " %" PRId64 " %" PRIu64 " %" PRId64 " %" PRIu64 " %" PRIu64 "\n", call, told.number,
@@ -81,6 +87,8 @@ static const uint32_t greys[] = {0x10008001, 0x200000B4, 0x400080FF, 0x500080FF,
 /* The same with a mantissa of 127 in its last channel. */
 static const uint32_t wild[] = {0x10008001, 0x200000B4, 0x400080FF, 0x500080FF, 0x600080FF,
                                 0x40007FFF, 0x50007FFF, 0x60007F7F, 0x70000002};
+/* One pixel of three different channels. */
+static const uint32_t coloured[] = {0x10004001, 0x200000B4, 0x400080FF, 0x50007FFF, 0x60000000, 0x70000001};
 static const uint32_t black[] = {0x10004001, 0x200000B4, 0x40000000, 0x50000000, 0x60000000, 0x70000001};
 
 static void readings(void)
@@ -92,6 +100,15 @@ static void readings(void)
     print_row("row 0", dofnihet_row_of(greys, COUNT(greys), 0));
     print_row("row 1", dofnihet_row_of(greys, COUNT(greys), 1));
     print_row("row 0 wild", dofnihet_row_of(wild, COUNT(wild), 0));
+    print_step("step 0", dofnihet_step_of(greys, COUNT(greys), 0));
+    print_step("step 1", dofnihet_step_of(greys, COUNT(greys), 1));
+    print_step("step 2", dofnihet_step_of(greys, COUNT(greys), 2));
+    print_step("step 3", dofnihet_step_of(greys, COUNT(greys), 3));
+    print_step("step 0 coloured", dofnihet_step_of(coloured, COUNT(coloured), 0));
+    print_step("step 0 black", dofnihet_step_of(black, COUNT(black), 0));
+    print_step("last step black", dofnihet_step_of(black, COUNT(black), UINT64_MAX));
+    print_step("step 0 wild", dofnihet_step_of(wild, COUNT(wild), 0));
+    print_step("last step wild", dofnihet_step_of(wild, COUNT(wild), UINT64_MAX));
     print_tally("tally", dofnihet_tally_of(greys, COUNT(greys)));
     print_tally("tally black", dofnihet_tally_of(black, COUNT(black)));
     print_tally("tally wild", dofnihet_tally_of(wild, COUNT(wild)));

@@ -12,12 +12,15 @@ use Rattle.strip.specs.declared.read.HeaderOrRefusal.{HeaderOrRefusal}
 use Rattle.strip.specs.Reading.{headerTold}
 use Rattle.row.specs.declared.RowOrRefusal.{RowOrRefusal}
 use Rattle.row.specs.Rows.{rowTold}
+use Rattle.reader.specs.declared.Step.{Step}
+use Rattle.reader.specs.Steps.{stepTold}
 use Rattle.page.specs.declared.tally.TallyOrRefusal.{TallyOrRefusal}
 use Rattle.page.specs.Tallying.{tallyTold}
 use Rattle.answers.specs.Values.{valueAt, signedAt}
 use Rattle.answers.specs.declared.headers.Page.{Page}
 use Rattle.answers.specs.declared.headers.HeaderAnswer.{HeaderAnswer}
 use Rattle.answers.specs.declared.rows.RowAnswer.{RowAnswer}
+use Rattle.answers.specs.declared.steps.StepAnswer.{StepAnswer}
 use Rattle.answers.specs.declared.tallies.TallyAnswer.{TallyAnswer}
 
 -- the header that a page's numbers stand for
@@ -60,4 +63,17 @@ tallyAnswer a =
       average = signedAt t 3;
       exponent = valueAt t 4;
       mantissa = valueAt t 5;
+    }
+
+-- a step of a page reader, or the strip's refusal
+abbrev pub stepAnswer : Step → StepAnswer
+stepAnswer a =
+    let t = stepTold a in
+    record {
+      number = t .outcome .number;
+      place = t .outcome .place;
+      over = valueAt t 0;
+      red = valueAt t 1;
+      green = valueAt t 2;
+      blue = valueAt t 3;
     }

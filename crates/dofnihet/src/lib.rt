@@ -2,6 +2,7 @@
 // numbers. include/dofnihet.h declares the same for C.
 pub mod pages;
 pub mod pictures;
+pub mod readers;
 pub mod rows;
 pub mod sources;
 pub mod strips;

@@ -1,2 +1,3 @@
 pub mod Steps
 pub mod Claims
+pub mod loops

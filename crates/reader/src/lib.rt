@@ -3,11 +3,12 @@
 mod steps;
 
 ghost use mathlib.Core.Path.{_≡_};
-ghost use Rattle.reader.specs.Steps.{openedOf, stepOf, movedOf};
+ghost use Rattle.reader.specs.Steps.{openedOf, stepOf, stepTold, movedOf, stepNumber};
 ghost use Rattle.reader.specs.Claims.{AnswersFor};
 use crate::steps::position_after;
 use crate::steps::start_of;
 use crate::steps::step_at;
+use crate::steps::steps_before;
 use number::channel::Pixel;
 use refusal::Refusal;
 
@@ -37,10 +38,31 @@ pub fn open<'a>(strip: &'a [u32]) -> PageReader<'a>
 
 // One step: the answer, and the reader moved on.
 pub fn next<'s, 'a>(reader: &'s mut PageReader<'a>) -> Step
-    ensures { λ r. ⌜ (r ≡ stepOf (now (reader .entry))) × (now (reader .exit) ≡ movedOf (now (reader .entry))) ⌝ }
+    ensures { λ r. ⌜ (r ≡ stepOf (now (reader .entry))) × (stepTold r ≡ stepTold (stepOf (now (reader .entry)))) × (now (reader .exit) ≡ movedOf (now (reader .entry))) ⌝ }
 {
     let strip = reader.strip;
     let position = reader.position;
     reader.position = position_after(strip, position);
     step_at(strip, position)
+}
+
+// The answer after so many steps: a reader is opened, takes them, and takes one more.
+fn step_after(strip: &[u32], taken: u64) -> Step
+    ensures { λ r. ⌜ r ≡ stepNumber (now (strip .entry)) taken ⌝ }
+{
+    let mut reader = open(strip);
+    let mut k: u64 = 0;
+    while k < taken {
+        next(&mut reader);
+        k += 1;
+    }
+    next(&mut reader)
+}
+
+// The answer of step n of a strip's reader, counted from 0.
+pub fn step_number(strip: &[u32], n: u64) -> Step
+    ensures answer { λ r. ⌜ r ≡ stepNumber (now (strip .entry)) n ⌝ }
+    ensures told { λ r. ⌜ stepTold r ≡ stepTold (stepNumber (now (strip .entry)) n) ⌝ }
+{
+    step_after(strip, steps_before(strip, n))
 }

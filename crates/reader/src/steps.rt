@@ -1,6 +1,8 @@
 // A reader's start and steps, on its strip and its position.
 ghost use mathlib.Core.Path.{_≡_};
+ghost use Prim.Native.Nat.{min};
 ghost use Rattle.reader.specs.Steps.{startOf, pixelBegins, stepAt, positionAfter};
+ghost use Rattle.reader.specs.loops.Counts.{stepsBefore};
 use crate::Step;
 use refusal::Verdict;
 use strip::check::check;
@@ -50,4 +52,21 @@ pub fn position_after(strip: &[u32], position: usize) -> usize
     } else {
         position
     }
+}
+
+// The lesser of two numbers.
+fn lesser(a: u64, b: u64) -> u64
+    ensures { λ r. ⌜ r ≡ min a b ⌝ }
+{
+    if a < b { a } else { b }
+}
+
+// As many of n steps as make a difference: none over a refused strip, else at most a third of its words, as a pixel has three.
+pub fn steps_before(strip: &[u32], n: u64) -> u64
+    ensures { λ r. ⌜ r ≡ stepsBefore (now (strip .entry)) n ⌝ }
+{
+    let Verdict::Accepted = check(strip) else {
+        return 0;
+    };
+    lesser(n, (strip.len() / 3) as u64)
 }

@@ -135,6 +135,13 @@ pub fn row(strip: &[u32], y: u64) -> Result<&[u32], Refusal> {
     accepted(told.number, told.place, &strip[start..start + told.length as usize])
 }
 
+/// Step n of a walk over a strip's pixels: the channels of pixel n, 16-bit numbers, or `None` where the page is over.
+pub fn step(strip: &[u32], n: u64) -> Result<Option<[u16; 3]>, Refusal> {
+    let told = raw::step(strip, n);
+    let channels = [told.red as u16, told.green as u16, told.blue as u16];
+    accepted(told.number, told.place, (told.over == 0).then_some(channels))
+}
+
 /// The tally of a strip.
 pub fn tally(strip: &[u32]) -> Result<Tally, Refusal> {
     let told = raw::tally(strip);

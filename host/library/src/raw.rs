@@ -38,6 +38,17 @@ pub struct Row {
 
 #[repr(C)]
 #[derive(Clone, Copy, Debug, PartialEq, Eq)]
+pub struct Step {
+    pub number: u64,
+    pub place: u64,
+    pub over: u64,
+    pub red: u64,
+    pub green: u64,
+    pub blue: u64,
+}
+
+#[repr(C)]
+#[derive(Clone, Copy, Debug, PartialEq, Eq)]
 pub struct Tally {
     pub number: u64,
     pub place: u64,
@@ -59,6 +70,7 @@ extern "C" {
     fn dofnihet_map(strip: *const u32, strip_len: usize, output: *mut u8, output_len: usize) -> Outcome;
     fn dofnihet_header_of(strip: *const u32, strip_len: usize) -> Header;
     fn dofnihet_row_of(strip: *const u32, strip_len: usize, y: u64) -> Row;
+    fn dofnihet_step_of(strip: *const u32, strip_len: usize, n: u64) -> Step;
     fn dofnihet_tally_of(strip: *const u32, strip_len: usize) -> Tally;
     fn dofnihet_front_of(width: u64, height: u64, output: *mut u8) -> u64;
 }
@@ -97,6 +109,10 @@ pub fn header(strip: &[u32]) -> Header {
 
 pub fn row(strip: &[u32], y: u64) -> Row {
     unsafe { dofnihet_row_of(strip.as_ptr(), strip.len(), y) }
+}
+
+pub fn step(strip: &[u32], n: u64) -> Step {
+    unsafe { dofnihet_step_of(strip.as_ptr(), strip.len(), n) }
 }
 
 pub fn tally(strip: &[u32]) -> Tally {

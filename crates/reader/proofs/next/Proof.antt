@@ -47,7 +47,7 @@ use denote.Triple.Spec.{Meets, tripleOf}
 use denote.Triple.Table.{entered, cited}
 use denote.Triple.Walked.{says, Stays, stay-ref, walkOf, goes-ref, Walks, ends-at, walked, walk-meets}
 use denote.Triple.Clauses.{ensured, lasts}
-use Rattle.reader.specs.Steps.{stepAt, positionAfter}
+use Rattle.reader.specs.Steps.{stepAt, stepTold, positionAfter}
 use Rattle.reader.specs.declared.PageReader.{PageReader}
 use Rattle.reader.specs.declared.Step.{Step}
 use Rattle.reader.proofs.PageReader as T
@@ -175,7 +175,7 @@ module _ {M : Type 1} (𝓤 : URA M) (H : Heap 𝓤) (A : Atoms 𝓤) (W : Given
     exits p e a u f =
         qed W (last p a u) ∵
         suffices ! _ (ends-at 𝓤 H A next.ended stayed (next.clauses 𝓤 H A at-mem run) W ghosts u a (left p, tt) (tt, tt)) $
-        says ! (f, λ i. left (e i)) $
+        says ! (f, ap stepTold f, λ i. left (e i)) $
         move ! (2 ∷ 3 ∷ []) $ join ! $ frame ! $ feqI ! (List Val) (vptr b o ∷ []) (vptr b o ∷ []) refl $ fjoin3 ! $ nothing ! $
         move ! (1 ∷ 0 ∷ []) $
         fjoin ! $ frame ! $ done !
