@@ -1,6 +1,6 @@
 -- Laws of a chain of checks. Assumes nothing.
 use Prim.Native.Nat.{ℕ}
-use mathlib.Core.Path.{_≡_, refl}
+use mathlib.Core.Path.{_≡_, refl, ap}
 use mathlib.Core.Bool.{Bool, true, false}
 use Rattle.refusal.specs.declared.Refusal.{Refusal}
 use Rattle.refusal.specs.declared.Verdict.{Verdict}
@@ -39,3 +39,7 @@ pub and-last : (v : Verdict) → andThen v Accepted ≡ v
 unfolding andThen
 and-last Accepted = refl
 and-last (Refused r i) = refl
+
+-- an answer that equals another, and what is told of it
+pub also : {A B : Type 0} (f : A → B) {x y : A} → x ≡ y → (x ≡ y) × (f x ≡ f y)
+also f e = (e, ap f e)
