@@ -30,4 +30,4 @@ pub use Rattle.number.proofs.Sticky.{sticky-bit}
 pub use Rattle.number.proofs.Storing.{code-order, code-mono}
 pub use Rattle.number.proofs.Channels.{code-channel, channel-code, channel-order, channel-valid}
 pub use Rattle.number.proofs.Sources.{half-valid, single-valid, rgbe-valid}
-pub use Rattle.number.proofs.Halves.{half-finite}
+pub use Rattle.number.proofs.Halves.{half-finite, plain-half}

@@ -40,6 +40,6 @@ unfolding andThen
 and-last Accepted = refl
 and-last (Refused r i) = refl
 
--- an answer that equals another, and what is told of it
+-- two answers that are the same are told alike
 pub also : {A B : Type 0} (f : A → B) {x y : A} → x ≡ y → (x ≡ y) × (f x ≡ f y)
 also f e = (e, ap f e)
