@@ -144,7 +144,10 @@ unwrapped a h = omega arith
 
 pub is-near : (m n l : ℕ) → IsNear m n l (nearIndex m n l)
 is-near m n l =
-    record { right = λ red green blue other. go red green blue other (decLe (n / 256) 0) (decLt (nearPlace l n) 8) (decLt (nearPlace m n) 8) }
+    record {
+      right = λ red green blue other.
+          go red green blue other (decLe (n / 256) 0) (decLt (nearPlace l n) 8) (decLt (nearPlace m n) 8);
+    }
   where
     none : nearIndex m n l ≡ 0 → (nearIndex m n l % 128 ≡ 0 → ⊥) → ⊥
     none e other = other (ap (λ (i : ℕ). i % 128) e)
@@ -161,7 +164,9 @@ is-near m n l =
         let small = sum-small m n l (nearPlace m n) (nearPlace l n) in
         let e = all-near m n l lit b r in
         let q = sum m n l lit b / 64 / 25 in
+        let index = 128 * (n / 256) + octaveIndex q in
+        let fits : index < 2 ^ 16 = omega (arith, octave-small q (omega (arith, small)), most) in
         near-index (codePixel m n l) red green blue
         (r, placed m n (exponent-most m _ red) most r) (b, placed l n (exponent-most l _ blue) most b) refl small lit
         (nearIndex m n l) (rw e (mod-lt _ (omega arith)))
-        (ap (λ (i : ℕ). (i + 8704) % 2 ^ 16) e ∙ unwrapped (128 * (n / 256) + octaveIndex q) (omega (arith, octave-small q (omega (arith, small)), most))) other
+        (ap (λ (i : ℕ). (i + 8704) % 2 ^ 16) e ∙ unwrapped index fits) other

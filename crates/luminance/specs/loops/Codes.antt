@@ -50,7 +50,7 @@ abbrev pub nearSum : (red green blue r b : ℕ) → ℕ
 nearSum red green blue r b =
     (2 * (red % 256) + 1) * (27 * 2 ^ (r % 8)) + (2 * (green % 256) + 1) * (67 * 2 ^ 4) + (2 * (blue % 256) + 1) * (6 * 2 ^ (b % 8))
 
--- An index by that sum, modulo 2^16: 128 for each exponent of green, and how far the sum's quotient lies behind 128 · 68. It is 0 where green
+-- An index by that sum, modulo 2^16: 128 for each exponent of green and what the sum's quotient adds, less 128 · 68. It is 0 where green
 -- has the exponent 0, and where red or blue lie further from it than 4 exponents below or 3 above.
 unfoldable pub nearIndex : (red green blue : ℕ) → ℕ
 nearIndex red green blue =

@@ -13,8 +13,8 @@ halfCode b = codeOf (channelIn (channelOfValue (halfValue b)))
 abbrev pub NotSubnormal : (b : ℕ) → Type 0
 NotSubnormal b = 1023 ≤ (b + 65535) % 65536
 
--- The same form worked out from the bits alone, right for each half that is no positive subnormal number: a normal half has its own exponent
--- and first digits; a power of two has the exponent below, and the mantissa 255.
+-- The same form worked out from the bits alone, right for each half that is no positive subnormal number: a normal half has its own
+-- exponent and first digits; a power of two has the exponent below, and the mantissa 255.
 unfoldable pub plainHalfCode : (b : ℕ) → ℕ
 plainHalfCode b =
     cond (eqb b 0) 0

@@ -14,7 +14,8 @@ returns c =
     let r′ = r .before in
     let s = r′ .before in
     let pre = s .pre in
-    let f = s .args .factor in
+    let a = s .args in
+    let f = a .factor in
     rw (
       r .wide-level .ensures,
       g .wide-level2 .ensures,
@@ -30,7 +31,7 @@ returns c =
             level-by-factor d y md my _ _ e (pre .3),
             level-by-factor d y md my _ _ e (pre .4),
           );
-      unlit = λ e. rw (level-unlit f (low16 (s .args .red)) e, level-unlit f (low16 (s .args .green)) e, level-unlit f (low16 (s .args .blue)) e);
+      unlit = λ e. rw (level-unlit f (low16 (a .red)) e, level-unlit f (low16 (a .green)) e, level-unlit f (low16 (a .blue)) e);
     })
 
 pub pixel-levels-spec : {M : Type 1} → statement M

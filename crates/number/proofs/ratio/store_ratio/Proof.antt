@@ -64,7 +64,9 @@ returns-4 c =
     (sym (too-large-at (at _ _ _ _ _ (c .before .before .before .before .scale .ensures) (c .before .if3 .left)) (c .if4 .taken)))
 
 returns-5 : tie.Need-returns-5
-returns-5 c = also ratioTold (sym (fits-at (at _ _ _ _ _ (c .before .before .before .before .scale .ensures) (c .before .if3 .left)) (c .if4 .left)))
+returns-5 c =
+    also ratioTold
+    (sym (fits-at (at _ _ _ _ _ (c .before .before .before .before .scale .ensures) (c .before .if3 .left)) (c .if4 .left)))
 
 pub store-ratio-spec : {M : Type 1} → statement M
 store-ratio-spec =
