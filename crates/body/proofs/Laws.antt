@@ -1,7 +1,7 @@
 -- The laws of channel words tallied and mapped, for the crates above. Assumes nothing.
 
 -- pixels of words are pixels; the luminance of a lit one; how many there are; their ranges
-pub use Rattle.body.proofs.Luminances.{pixel-valid, pixels-valid, storedLuminance, lit-luminance, lit-count, luminances-few, every-luminance}
+pub use Rattle.body.proofs.Luminances.{pixels-valid, storedLuminance, lit-luminance, lit-count, luminances-few, every-luminance}
 -- pixels one after another: their luminances, their tally and their levels
 pub use Rattle.body.proofs.Luminances.{luminances-append, tally-join}
 pub use Rattle.body.proofs.Bytes.{levels-append, length-levels}

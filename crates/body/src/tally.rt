@@ -21,9 +21,10 @@ use average::tables::log_table;
 use average::tally::Tally;
 use average::tally::no_luminance;
 use average::tally::with_luminance;
+use luminance::index::blue_weights;
 use luminance::index::luminance_index;
+use luminance::index::red_weights;
 use luminance::index::stored_at;
-use luminance::index::weight_table;
 use word::header::low_half;
 
 // The index of the luminance of a pixel's words: the one that is at hand, where it is worked out.
@@ -113,8 +114,8 @@ fn index_pixels(words: &[u32], output: &mut [u8]) -> Tally
         → now (output .exit) ≡ onto (indicesOf (wordPixels (now (words .entry)))) (now (output .entry))) ⌝ }
 {
     let logs = log_table();
-    let reds = weight_table(27);
-    let blues = weight_table(6);
+    let reds = red_weights();
+    let blues = blue_weights();
     let all = words.len();
     let pixels = all / 3;
     let mut tally = no_luminance();

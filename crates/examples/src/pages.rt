@@ -6,15 +6,15 @@ use crate::print::signed;
 use crate::print::text;
 use average::average::Average;
 use convert::half::convert_half;
+use luminance::index::code_luminance;
 use luminance::pixel::Luminance;
-use luminance::pixel::pixel_luminance;
 use page::map::map;
 use page::tally::TallyOrRefusal;
 use page::tally::tally;
 use refusal::Verdict;
 use strip::read::body;
-use word::body::pixel_in;
 use word::header::Header;
+use word::header::low_half;
 
 // A page of one row.
 pub fn header(width: u64, key: u64) -> Header {
@@ -85,8 +85,7 @@ fn luminance(strip: &[u32]) {
     if words.len() < 3 {
         return;
     }
-    let pixel = pixel_in(words[0], words[1], words[2]);
-    match pixel_luminance(pixel) {
+    match code_luminance(low_half(words[0]), low_half(words[1]), low_half(words[2])) {
         Luminance::Lit(stored) => pair(stored.exponent as u64, stored.mantissa as u64),
         Luminance::Unlit => text(b"unlit"),
     }

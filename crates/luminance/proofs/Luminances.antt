@@ -20,6 +20,7 @@ use Rattle.number.proofs.Laws.{
   unit-pos,
   code-mono,
   idempotent,
+  code-valid,
   is-mantissa,
   stores-by-rule,
   worth-scaled,
@@ -28,11 +29,15 @@ use Rattle.number.specs.declared.channel.Channel.{Channel}
 use Rattle.number.specs.declared.channel.Channel.the-variants.{Black, Lit}
 use Rattle.number.specs.declared.channel.Pixel.{Pixel}
 use Rattle.number.specs.declared.ratio.Stored.{Stored}
-use Rattle.luminance.specs.Pixels.{IsPixel, exactLuminance, isBlack, luminanceOf, IsLuminance}
+use Rattle.luminance.specs.Pixels.{IsPixel, codePixel, exactLuminance, isBlack, luminanceOf, IsLuminance}
 use Rattle.luminance.specs.Claims.{LuminanceInRange}
 use Rattle.luminance.specs.declared.pixel.Luminance.{Luminance}
 use Rattle.luminance.specs.declared.pixel.Luminance.the-variants.{Unlit}
 use Rattle.luminance.proofs.Storables.{StoresAs, shut}
+
+-- any three numbers have a pixel of channels
+pub code-pixel : (r g b : ℕ) → IsPixel (codePixel r g b)
+code-pixel r g b = record { red = code-valid r; green = code-valid g; blue = code-valid b }
 
 -- by the three tests
 abbrev told : (p : Pixel) (r g b : Bool) → Luminance

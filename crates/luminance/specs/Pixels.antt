@@ -1,7 +1,10 @@
 -- Step 1, the luminance of a pixel. Assumes nothing.
 use mathlib.Core.Bool.{Bool, true, false, cond, not, _||_}
-use Prim.Native.Nat.{_+_, _*_, _≤_}
-use Rattle.number.proofs.Laws.{Frac, _over_, IsMantissa, IsChannel, unit, worthOf, storedOf}
+use mathlib.Core.List.{[], _∷_}
+use Prim.Native.Nat.{ℕ, _+_, _*_, _≤_}
+use lib.IntN.{pos}
+use Rattle.refusal.specs.Told.{Told, holding}
+use Rattle.number.proofs.Laws.{Frac, _over_, IsMantissa, IsChannel, unit, worthOf, storedOf, codeChannel}
 use Rattle.number.specs.declared.channel.Channel.{Channel}
 use Rattle.number.specs.declared.channel.Channel.the-variants.{Black, Lit}
 use Rattle.number.specs.declared.channel.Pixel.{Pixel}
@@ -14,6 +17,10 @@ pub record IsPixel (p : Pixel) : Type 0 where
   pub red : IsChannel (p .red)
   pub green : IsChannel (p .green)
   pub blue : IsChannel (p .blue)
+
+-- the pixel of three codes; a number that is no code stands for black
+abbrev pub codePixel : (red green blue : ℕ) → Pixel
+codePixel r g b = record { red = codeChannel r; green = codeChannel g; blue = codeChannel b }
 
 -- "(27R + 67G + 6B)/100 over decoded channels, black as 0": the exact luminance, not stored. Every worth counts units.
 abbrev pub exactLuminance : Pixel → Frac
@@ -30,6 +37,11 @@ anyLit p = not (isBlack (p .red)) || not (isBlack (p .green)) || not (isBlack (p
 -- "stored as above. All black: the pixel is unlit."
 unfoldable pub luminanceOf : Pixel → Luminance
 luminanceOf p = cond (anyLit p) (Luminance.Lit (storedOf (exactLuminance p))) Unlit
+
+-- in numbers: 0, or 1 with E and M
+abbrev pub luminanceTold : Luminance → Told
+luminanceTold Unlit = holding (pos 0 ∷ [])
+luminanceTold (Luminance.Lit y) = holding (pos 1 ∷ pos (y .exponent) ∷ pos (y .mantissa) ∷ [])
 
 -- "E is 67 to 184", and more closely: every lit luminance lies from (67,246) to (184,255)
 pub record IsLuminance (y : Stored) : Type 0 where

@@ -1,2 +1,3 @@
 -- What loops and tables keep to: no rule of the papers, and no claim.
 pub mod Codes
+pub mod Ratios

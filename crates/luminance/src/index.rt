@@ -2,8 +2,8 @@
 ghost use mathlib.Core.Path.{_≡_};
 ghost use Prim.Native.Nat.{_+_, _-_, _*_, _/_, _^_, _≤_, _<_, min};
 ghost use Rattle.number.proofs.Laws.{IsCode, codeChannel};
-ghost use Rattle.luminance.specs.Pixels.{luminanceOf};
-ghost use Rattle.luminance.specs.loops.Codes.{codePixel, indexOf, indexCount, storedAt, IsWeightTable, IsCut};
+ghost use Rattle.luminance.specs.Pixels.{codePixel, luminanceOf, luminanceTold};
+ghost use Rattle.luminance.specs.loops.Codes.{indexOf, storedAt, IsWeightTable, IsCut};
 use crate::pixel::Luminance;
 use crate::pixel::pixel_luminance;
 use number::channel::Channel;
@@ -13,7 +13,7 @@ use number::channel::code_to_channel;
 use number::ratio::Stored;
 
 // The weight times each power of two from 2^0 to 2^47.
-pub fn weight_table(weight: u64) -> [u64; 48]
+fn weight_table(weight: u64) -> [u64; 48]
     requires { ⌜ weight ≤ 67 ⌝ }
     ensures { λ r. ⌜ IsWeightTable weight r ⌝ }
 {
@@ -26,6 +26,20 @@ pub fn weight_table(weight: u64) -> [u64; 48]
         i += 1;
     }
     table
+}
+
+// The weights of red.
+pub fn red_weights() -> [u64; 48]
+    ensures { λ r. ⌜ IsWeightTable 27 r ⌝ }
+{
+    weight_table(27)
+}
+
+// The weights of blue.
+pub fn blue_weights() -> [u64; 48]
+    ensures { λ r. ⌜ IsWeightTable 6 r ⌝ }
+{
+    weight_table(6)
 }
 
 // The place of an exponent in a weight table, where green's is at 24. It is 48 or more for an exponent that has none.
@@ -92,10 +106,10 @@ fn code_channel(code: u16) -> Channel
     channel
 }
 
-// The luminance of a pixel by its codes.
-fn code_luminance(red: u16, green: u16, blue: u16) -> Luminance
-    requires { ⌜ IsCode red × IsCode green × IsCode blue ⌝ }
-    ensures { λ r. ⌜ r ≡ luminanceOf (codePixel red green blue) ⌝ }
+// The luminance of a pixel by its codes. A number that is no code stands for black.
+pub fn code_luminance(red: u16, green: u16, blue: u16) -> Luminance
+    ensures answer { λ r. ⌜ r ≡ luminanceOf (codePixel red green blue) ⌝ }
+    ensures told { λ r. ⌜ luminanceTold r ≡ luminanceTold (luminanceOf (codePixel red green blue)) ⌝ }
 {
     pixel_luminance(Pixel {
         red: code_channel(red),
@@ -106,7 +120,6 @@ fn code_luminance(red: u16, green: u16, blue: u16) -> Luminance
 
 // Its index, for every pixel.
 fn general_index(red: u16, green: u16, blue: u16) -> u64
-    requires { ⌜ IsCode red × IsCode green × IsCode blue ⌝ }
     ensures { λ r. ⌜ r ≡ indexOf (luminanceOf (codePixel red green blue)) ⌝ }
 {
     let luminance = code_luminance(red, green, blue);
@@ -149,11 +162,10 @@ pub fn luminance_index(reds: &[u64; 48], blues: &[u64; 48], red: u16, green: u16
 
 // The luminance at an index.
 pub fn stored_at(index: u64) -> Stored
-    requires { ⌜ index < indexCount ⌝ }
     ensures { λ r. ⌜ r ≡ storedAt index ⌝ }
 {
     Stored {
-        exponent: (index / 128 + 66) as u8,
+        exponent: ((index / 128 + 66) % 256) as u8,
         mantissa: (index % 128 + 128) as u8,
     }
 }

@@ -92,7 +92,7 @@ fn store_ordered(a: Term, b: Term, c: Term) -> Stored
 }
 
 // The luminance of a pixel.
-pub fn pixel_luminance(pixel: Pixel) -> Luminance
+pub(crate) fn pixel_luminance(pixel: Pixel) -> Luminance
     requires { ⌜ IsPixel pixel ⌝ }
     ensures { λ r. ⌜ r ≡ luminanceOf pixel ⌝ }
 {

@@ -23,6 +23,7 @@ use Rattle.number.specs.Channels.{
   codeOf,
   channelOfCode,
   channelIn,
+  codeChannel,
   Coded,
 }
 use Rattle.number.specs.declared.channel.Channel.{Channel}
@@ -161,6 +162,14 @@ channel-code n c h = go (eqb n 0) (leb leastExponent E) (leb E greatestExponent)
     go false true true false z₁ a₁ b₁ d₁ q = let z : _≡_ {A = ℕ} 0 1 = cc in absurd (omega arith)
     go false true false d z₁ a₁ b₁ d₁ q = let z : _≡_ {A = ℕ} 0 1 = cc in absurd (omega arith)
     go false false b d z₁ a₁ b₁ d₁ q = let z : _≡_ {A = ℕ} 0 1 = cc in absurd (omega arith)
+
+-- what any number becomes is a channel
+pub code-valid : (n : ℕ) → IsChannel (codeChannel n)
+code-valid n = by (channelOfCode n) refl
+  where
+    by : (d : Decoded) → channelOfCode n ≡ d → IsChannel (channelIn d)
+    by (Holds c) e = channel-code n c e .valid
+    by (Refuses r) e = tt
 
 -- the order of the 16-bit forms is that of the worths
 pub channel-order : (c c′ : Channel) → IsChannel c → IsChannel c′ → (codeOf c < codeOf c′) ↔ Below (worthOf c) (worthOf c′)

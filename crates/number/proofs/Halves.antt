@@ -1,16 +1,17 @@
 -- What a half becomes: by its exponent field and fraction where it is a normal number, and black elsewhere. Assumes nothing.
-use mathlib.Core.Path.{_≡_, ap, _∙_}
+use mathlib.Core.Path.{_≡_, ap, sym, _∙_}
 use mathlib.Core.Logic.{_⊎_, inl, inr}
 use Prim.Native.Nat.{ℕ, zero, suc, _+_, _-_, _*_, _/_, _%_, _^_, _≤_, _<_}
 use native.Mathlib.Nat.{mul-le-mul}
-use native.Mathlib.Decide.{decLe}
+use native.Mathlib.Decide.{decLe, decLt}
 use native.Mathlib.Omega.{arith}
+use borrow.Author.Tests.{eq-eqb, ne-eqb, lt-ltb, le-ltb}
 use lib.Pow.{pow-mono}
 use Rattle.number.specs.Fractions.{_over_, AtMost, twoTo}
 use Rattle.number.specs.Storing.{Scales}
 use Rattle.number.specs.Channels.{brightPower, channelOf, channelIn, codeOf}
 use Rattle.number.specs.Sources.{channelOfValue, fieldValue, halfValue, magnitude}
-use Rattle.number.specs.loops.Halves.{halfCode}
+use Rattle.number.specs.loops.Halves.{halfCode, NotSubnormal, plainHalfCode}
 use Rattle.number.specs.declared.channel.Channel.the-variants.{Black, Lit}
 use Rattle.number.specs.declared.channel.Decoded.the-variants.{Holds}
 use Rattle.number.proofs.Scaling.{rescale, whole-powers-into}
@@ -54,10 +55,10 @@ module _ (b : ℕ) (low : 1024 ≤ b) (high : b < 31744) where
       ∙ ap channelOf (normal 1024 24 (fieldOf b) (fractionOf b) (omega arith))
       ∙ rw x (powered (b / 1024) (omega arith) (omega arith) g h s)
 
-  pub half-normal : (b % 1024 ≡ 0 → ⊥) → halfCode b ≡ b / 8 + b / 8 / 128 % 32 * 128 + 29183 + 129
+  half-normal : (b % 1024 ≡ 0 → ⊥) → halfCode b ≡ b / 8 + b / 8 / 128 % 32 * 128 + 29183 + 129
   half-normal f = rw (lit (omega arith) (omega arith) (between (1024 + fractionOf b) (omega arith) (omega arith))) (omega arith)
 
-  pub half-power : b % 1024 ≡ 0 → halfCode b ≡ b / 8 + b / 8 / 128 % 32 * 128 + 29183
+  half-power : b % 1024 ≡ 0 → halfCode b ≡ b / 8 + b / 8 / 128 % 32 * 128 + 29183
   half-power e =
       let m : 1024 + fractionOf b ≡ 1024 = omega arith in
       rw (lit {j = 10} {M = 255} (omega arith) (omega arith) (rw m least)) (omega arith)
@@ -68,9 +69,9 @@ zero-black : channelOfValue (halfValue 0) ≡ Holds Black
 unfolding channelOfValue fieldValue
 zero-black = black _ (record { cross = omega arith })
 
-pub half-black : (b : ℕ) → b < 65536 → (b ≡ 0) ⊎ (31744 ≤ b) → halfCode b ≡ 0
-half-black b h (inl e) = rw e (ap (λ d. codeOf (channelIn d)) zero-black)
-half-black b h (inr g) = go (decLe 31 (fieldOf b))
+half-black : (b : ℕ) → (b ≡ 0) ⊎ (31744 ≤ b) → halfCode b ≡ 0
+half-black b (inl e) = rw e (ap (λ d. codeOf (channelIn d)) zero-black)
+half-black b (inr g) = go (decLe 31 (fieldOf b))
   where
     go : Dec (31 ≤ fieldOf b) → halfCode b ≡ 0
     go (yes a) =
@@ -78,6 +79,37 @@ half-black b h (inr g) = go (decLe 31 (fieldOf b))
     go (no a) =
         ap (λ d. codeOf (channelIn d))
         (negative 1024 31 24 (signOf b) (fieldOf b) (fractionOf b) (λ e. omega arith) (λ e. omega arith))
+
+-- ---- the form worked out from the bits alone, in each of its cases
+
+module _ (b : ℕ) where
+  pub plain-zero : b ≡ 0 → plainHalfCode b ≡ 0
+  unfolding plainHalfCode
+  plain-zero e = simp (eq-eqb b 0 e)
+
+  pub plain-beyond : 31744 ≤ b → plainHalfCode b ≡ 0
+  unfolding plainHalfCode
+  plain-beyond h = simp (ne-eqb b 0 (λ e. omega arith), le-ltb b 31744 h)
+
+  pub plain-power : 0 < b → b < 31744 → b % 1024 ≡ 0 → plainHalfCode b ≡ b / 8 + b / 8 / 128 % 32 * 128 + 29183 + 0
+  unfolding plainHalfCode
+  plain-power g h e = simp (ne-eqb b 0 (λ e. omega arith), lt-ltb b 31744 h, eq-eqb (b % 1024) 0 e)
+
+  pub plain-normal : 0 < b → b < 31744 → (b % 1024 ≡ 0 → ⊥) → plainHalfCode b ≡ b / 8 + b / 8 / 128 % 32 * 128 + 29183 + 129
+  unfolding plainHalfCode
+  plain-normal g h e = simp (ne-eqb b 0 (λ e. omega arith), lt-ltb b 31744 h, ne-eqb (b % 1024) 0 e)
+
+  -- it is that of the channel, unless the half is a positive subnormal number
+  pub plain-half : NotSubnormal b → plainHalfCode b ≡ halfCode b
+  plain-half n = go (decLe b 0) (decLt b 31744) (decLe (b % 1024) 0)
+    where
+      go : Dec (b ≤ 0) → Dec (b < 31744) → Dec (b % 1024 ≤ 0) → plainHalfCode b ≡ halfCode b
+      go (yes e) h f = plain-zero (omega arith) ∙ sym (half-black b (inl (omega arith)))
+      go (no e) (no h) f = plain-beyond (omega arith) ∙ sym (half-black b (inr (omega arith)))
+      go (no e) (yes h) (yes f) =
+          omega (arith, plain-power (omega arith) h (omega arith), half-power b (omega arith) h (omega arith))
+      go (no e) (yes h) (no f) =
+          omega (arith, plain-normal (omega arith) h (λ g. omega arith), half-normal b (omega arith) h (λ g. omega arith))
 
 -- ---- a finite half is never refused
 

@@ -1,8 +1,10 @@
 -- Storing a positive rational F as an exponent E and a mantissa M. Assumes nothing.
 use mathlib.Core.Path.{_≡_}
+use mathlib.Core.List.{[], _∷_}
 use Prim.Native.Nat.{ℕ, _+_, _-_, _*_, _/_, _^_, _≤_, _<_, min}
-use lib.IntN.{ℤ, subℕ}
+use lib.IntN.{ℤ, pos, subℕ}
 use lib.Ieee.{size}
+use Rattle.refusal.specs.Told.{Told, holding}
 use Rattle.number.specs.Fractions.{Frac, _over_, byRange}
 use Rattle.number.specs.declared.ratio.Stored.{Stored}
 use Rattle.number.specs.declared.ratio.StoredRatio.{StoredRatio}
@@ -71,3 +73,8 @@ storedOf F = record { exponent = exponentOf F; mantissa = mantissaOf F }
 -- F stored where E is 0 to 255, so that it fits eight bits: F above 2^-129 and at most 2^127
 unfoldable pub ratioOf : Frac → StoredRatio
 ratioOf F = byRange 129 127 F OutOfRange (InRange (storedOf F)) OutOfRange
+
+-- in numbers: 0, or 1 with E and M
+abbrev pub ratioTold : StoredRatio → Told
+ratioTold OutOfRange = holding (pos 0 ∷ [])
+ratioTold (InRange s) = holding (pos 1 ∷ pos (s .exponent) ∷ pos (s .mantissa) ∷ [])

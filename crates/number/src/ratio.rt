@@ -2,7 +2,7 @@
 ghost use mathlib.Core.Path.{_≡_};
 ghost use Prim.Native.Nat.{_+_, _-_, _*_, _^_, _≤_, _<_};
 ghost use Rattle.number.specs.Fractions.{_over_};
-ghost use Rattle.number.specs.Storing.{unit, Normalised, Scales, ratioOf};
+ghost use Rattle.number.specs.Storing.{unit, Normalised, Scales, ratioOf, ratioTold};
 
 // A stored number: exponent E and mantissa M, worth (M + 1/2) * 2^(E - 136).
 pub struct Stored {
@@ -147,7 +147,8 @@ fn scale(num: u64, den: u64) -> Scaled
 
 // num / den * 2^exp in units of 2^-137, stored.
 pub fn store_ratio(num: u64, den: u64, exp: u16) -> StoredRatio
-    ensures { λ r. ⌜ r ≡ ratioOf (num * 2 ^ exp over den * unit) ⌝ }
+    ensures answer { λ r. ⌜ r ≡ ratioOf (num * 2 ^ exp over den * unit) ⌝ }
+    ensures told { λ r. ⌜ ratioTold r ≡ ratioTold (ratioOf (num * 2 ^ exp over den * unit)) ⌝ }
 {
     if num == 0 {
         return StoredRatio::OutOfRange;

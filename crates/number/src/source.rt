@@ -3,7 +3,7 @@ ghost use mathlib.Core.Path.{_≡_};
 ghost use Prim.Native.Nat.{_+_, _^_, _<_};
 ghost use Rattle.number.specs.Channels.{decodedTold};
 ghost use Rattle.number.specs.Sources.{channelOfValue, fieldValue, halfValue, singleValue, rgbeValue};
-ghost use Rattle.number.specs.loops.Halves.{NotSubnormal, halfCode};
+ghost use Rattle.number.specs.loops.Halves.{halfCode, plainHalfCode};
 use crate::channel::Channel;
 use crate::channel::Decoded;
 use crate::channel::decoded_code;
@@ -53,7 +53,7 @@ pub fn half_to_channel(bits: u16) -> Decoded
 // The 16-bit form of the channel of a half that is no positive subnormal number, without a branch; 0 where the half is refused. A normal
 // half has its own exponent and first digits; a power of two has the exponent below, and the mantissa 255.
 pub fn plain_half_code(bits: u16) -> u16
-    ensures { λ r. ⌜ (NotSubnormal bits → r ≡ halfCode bits) ⌝ }
+    ensures { λ r. ⌜ r ≡ plainHalfCode bits ⌝ }
 {
     let digits = bits >> 3;
     let more = if bits % 1024 == 0 { 0 } else { 129 };

@@ -1,5 +1,6 @@
 -- The level from a factor is the level of step 6: 28 binary places of 255 / (2M + 1) are exact enough. Assumes nothing.
 use mathlib.Core.Path.{_≡_, _∙_, refl, ap, sym}
+use mathlib.Core.List.{List}
 use Prim.Native.Nat.{ℕ, _+_, _-_, _*_, _/_, _%_, _^_, _≤_, _<_, min}
 use native.Mathlib.Decide.{decLt}
 use native.Mathlib.Nat.{
@@ -12,18 +13,20 @@ use native.Mathlib.Nat.{
   lt-div-mul-add,
   lt-of-mul-lt-mul-left,
   min-eq-left,
+  mod-eq-of-lt,
   mul-le-mul,
   mul-le-mul-left,
   mul-le-mul-right,
   mul-pos,
 }
 use native.Mathlib.Omega.{arith}
+use lib.ListN.{getD}
 use lib.Pow.{pow-add, pow-mono, pow-pos}
 use Rattle.number.proofs.Laws.{_over_, IsMantissa, IsLit, Coded, IsCode, codeChannel}
 use Rattle.number.specs.declared.channel.Channel.{Channel}
 use Rattle.number.specs.declared.channel.Channel.the-variants.{Black, Lit}
 use Rattle.number.specs.declared.ratio.Stored.{Stored}
-use Rattle.tone.specs.loops.Factors.{reciprocalOf, offsetOf, factorOf, powerAt}
+use Rattle.tone.specs.loops.Factors.{reciprocalOf, offsetOf, factorOf, factorBy, powerAt, wideLevel, IsReciprocalTable}
 use Rattle.tone.specs.Levels.{levelOf, nearestWhole}
 use Rattle.tone.proofs.LevelSteps.{apart, black-level, full-level, dark-level, lowered, lit-level}
 use Rattle.tone.proofs.Powers.{power-below, power-within, power-beyond}
@@ -48,7 +51,7 @@ reciprocal M m =
     }
 
 -- the level of a scale, the value of a channel and a power
-abbrev pub levelBy : (scale value power : ℕ) → ℕ
+abbrev levelBy : (scale value power : ℕ) → ℕ
 levelBy s v p = min 255 ((s * v * p + 2 ^ 45) / 2 ^ 46)
 
 unlit-by : (s v p : ℕ) → s * v * p ≡ 0 → levelBy s v p ≡ 0
@@ -177,6 +180,24 @@ module _ (d y : Stored) (md : IsMantissa (d .mantissa)) (my : IsMantissa (y .man
       let l = h .valid in
       let e : n / 256 ≡ E = omega arith in let m : n % 256 ≡ M = omega arith in rw (e, m) (lit-by E M l)
 
-  pub level-by-factor : (f n : ℕ) → f ≡ factorOf d y → IsCode n
-      → levelBy (f % 2 ^ 40) (2 * (n % 256) + 1) (powerAt (n / 256 + f / 2 ^ 40)) ≡ levelOf d (codeChannel n) y
+  pub level-by-factor : (f n : ℕ) → f ≡ factorOf d y → IsCode n → min 255 (wideLevel f n) ≡ levelOf d (codeChannel n) y
+  unfolding wideLevel
   level-by-factor f n e h = rw (e, factor-low, factor-high) (code-by (codeChannel n) n h)
+
+-- a factor of scale 0 gives level 0
+pub level-unlit : (f n : ℕ) → f % 2 ^ 40 ≡ 0 → wideLevel f n ≡ 0
+unfolding wideLevel
+level-unlit f n e = rw e (omega arith)
+
+-- ---- by a table of reciprocals
+
+module _ (rs : List ℕ) (d y : Stored) where
+  pub factor-by : IsReciprocalTable rs → IsMantissa (y .mantissa) → factorBy rs d y ≡ factorOf d y
+  unfolding factorBy
+  factor-by table m =
+      let M = y .mantissa in
+      let R = reciprocalOf M in
+      let k : 128 + M % 128 ≡ M = omega arith in
+      let small : R < 2 ^ 28 = omega (arith, mul-le-mul-left R (value m .0), reciprocal M m .most) in
+      let entry : getD rs (M % 128) 0 ≡ R = table .entry (M % 128) (omega arith) ∙ ap reciprocalOf k in
+      rw entry (ap (λ (z : ℕ). (2 * d .mantissa + 1) * z + offsetOf d y * 2 ^ 40) (mod-eq-of-lt small))

@@ -6,8 +6,8 @@ pub use Rattle.tone.proofs.PixelBounds.{display-mantissa}
 pub use Rattle.tone.proofs.LevelSteps.{black-level}
 -- below 255 no half is rounded
 pub use Rattle.tone.proofs.Halves.{no-half}
--- the bound of a factor
-pub use Rattle.tone.proofs.Factors.{factor-most}
+-- a factor: its bound, that of a right table, and the levels by it
+pub use Rattle.tone.proofs.Factors.{factor-most, factor-by, level-by-factor, level-unlit}
 -- the second half of demand 3, for every curve that never stretches a ratio, and for L/(1+L)
 pub use Rattle.tone.proofs.Curves.{NeverStretches, reinhard-ratio}
 pub use Rattle.tone.proofs.LevelBounds.{pixel-bound}

@@ -1,10 +1,7 @@
 // Step 6 by factors: one for each luminance, from which the level of a channel needs no division.
 ghost use mathlib.Core.Path.{_≡_};
-ghost use Prim.Native.Nat.{_+_, _*_, _%_, _^_, _≤_, _<_, min};
-ghost use Rattle.number.proofs.Laws.{IsMantissa, IsCode, codeChannel};
-ghost use Rattle.number.specs.declared.ratio.Stored.{Stored};
-ghost use Rattle.tone.specs.Levels.{levelOf};
-ghost use Rattle.tone.specs.loops.Factors.{reciprocalOf, offsetOf, factorOf, powerAt, IsPowerTable, IsReciprocalTable};
+ghost use Prim.Native.Nat.{_+_, _*_, _^_, _≤_, _<_, min};
+ghost use Rattle.tone.specs.loops.Factors.{reciprocalOf, offsetOf, factorBy, powerAt, wideLevel, IsPowerTable, IsReciprocalTable};
 use number::ratio::Stored;
 
 // 2^40. A factor is its offset times this, plus its scale.
@@ -65,24 +62,23 @@ fn offset(display: Stored, luminance: Stored) -> u64
     if difference < 373 { difference } else { 373 }
 }
 
+// 2^28. Every reciprocal is below.
+const RECIPROCAL_UNIT: u64 = 268435456;
+
 // The factor of a luminance and its display luminance: what step 6 needs of both.
 pub fn factor(reciprocals: &[u64; 128], display: Stored, luminance: Stored) -> u64
-    requires { ⌜ IsReciprocalTable (now reciprocals) × IsMantissa (display .mantissa) × IsMantissa (luminance .mantissa) ⌝ }
-    ensures { λ r. ⌜ r ≡ factorOf display luminance ⌝ }
+    ensures { λ r. ⌜ r ≡ factorBy (now (reciprocals .entry)) display luminance ⌝ }
 {
-    let scale = (2 * (display.mantissa as u64) + 1)
-        * reciprocals[(luminance.mantissa - 128) as usize];
+    let entry = reciprocals[(luminance.mantissa % 128) as usize] % RECIPROCAL_UNIT;
+    let scale = (2 * (display.mantissa as u64) + 1) * entry;
     scale + offset(display, luminance) * OFFSET_UNIT
 }
 
 // Step 6 up to its limit: the level of a channel, given by its code, in a pixel with this factor, before 255 is taken for more. A factor of
 // scale 0 gives level 0.
 pub fn wide_level(powers: &[u64; 640], factor: u64, code: u16) -> u16
-    requires { ⌜ IsPowerTable (now powers) × IsCode code × (factor < 374 * 2 ^ 40) ⌝ }
-    ensures lit { λ r.
-        ⌜ ((d y : Stored) → IsMantissa (d .mantissa) → IsMantissa (y .mantissa) → factor ≡ factorOf d y
-        → min 255 r ≡ levelOf d (codeChannel code) y) ⌝ }
-    ensures unlit { λ r. ⌜ (factor % 2 ^ 40 ≡ 0 → r ≡ 0) ⌝ }
+    requires { ⌜ IsPowerTable (now powers) × (factor < 374 * 2 ^ 40) ⌝ }
+    ensures { λ r. ⌜ r ≡ wideLevel factor code ⌝ }
 {
     let scale = factor % OFFSET_UNIT;
     let offset = (factor / OFFSET_UNIT) as usize;

@@ -3,7 +3,7 @@ use borrow.Author.Needs.{needs}
 use mathlib.Core.Path.{_≡_, sym, _∙_}
 use Rattle.luminance.specs.loops.Codes.{storedAt}
 use Rattle.luminance.specs.Pixels.{IsLuminance}
-use Rattle.tone.proofs.Laws.{display-mantissa}
+use Rattle.tone.proofs.Laws.{factor-by}
 use Rattle.body.proofs.Indices.{is-luminance}
 use Rattle.body.proofs.Factors.{factor-lit, kept, not-unlit, with-entry}
 use Rattle.body.proofs.levels.factor_at.Statement.{statement}
@@ -27,29 +27,19 @@ display-by-requires c κs =
     let pre = e .before .before .pre in
     (pre .2, pre .0, rw (c .stored-at .ensures) (luminance e))
 
-factor-requires : tie.Need-factor-requires
-factor-requires c κs =
-    let s = c .before in
-    let e = s .before in
-    let pre = e .before .before .pre in
-    let y = luminance e in (
-      pre .1,
-      rw (c .display-by .ensures, s .stored-at .ensures) (display-mantissa _ _ (pre .0) y),
-      rw (s .stored-at .ensures) (y .mantissa),
-    )
-
 returns-2 : tie.Need-returns-2
 returns-2 c =
     let d = c .before in
     let s = d .before in
     let e = s .before in
     let pre = e .before .before .pre in
-    let made = (rw (d .display-by .ensures, s .stored-at .ensures) at (c .factor .ensures)) ∙ sym (factor-lit _ (lit e)) in
+    let made = (rw (d .display-by .ensures, s .stored-at .ensures) at (c .factor .ensures))
+    ∙ factor-by _ _ _ (pre .1) (luminance e .mantissa) ∙ sym (factor-lit _ (lit e)) in
     (made, with-entry _ _ (pre .4) _ (pre .3 .small) (lit e) made)
 
 pub factor-at-spec : {M : Type 1} → statement M
 factor-at-spec =
     tie.close
     (tie.spec
-    (λ c. search needs) (λ c. search needs) returns (λ c κs. search needs) display-by-requires factor-requires (λ c. search needs)
+    (λ c. search needs) (λ c. search needs) returns (λ c κs. search needs) display-by-requires (λ c κs. search needs) (λ c. search needs)
     (λ c. search needs) returns-2)

@@ -5,6 +5,7 @@ use native.Mathlib.Omega.{arith}
 use lib.ListN.{getD}
 use Rattle.number.proofs.Laws.{Filled, filled-none, filled-next}
 use Rattle.luminance.specs.loops.Codes.{IsNear}
+use Rattle.luminance.proofs.Laws.{is-near}
 use Rattle.body.proofs.near.code_indices.Statement.{statement}
 use Rattle.body.proofs.near.code_indices.Tie as tie
 
@@ -18,7 +19,7 @@ abbrev μ-loop : tie.MeasureT-loop
 loop-again : tie.Need-loop-again Inv-loop μ-loop
 loop-again c =
     let t = c .before .before .before .before in
-    filled-next (t .before .loop .inv) (t .loop-test .taken) (c .near-index .ensures)
+    filled-next (t .before .loop .inv) (t .loop-test .taken) (rw (c .near-index .ensures) (is-near _ _ _))
 
 returns : tie.Need-returns Inv-loop μ-loop
 returns c = record { near = λ k h. c .before .loop .inv .entry k (omega arith) }

@@ -43,8 +43,8 @@ index-part-requires c κs =
     let k = 3 * e .block-end .result - a in
     let sums = tallied-sum ws _ (t .before .loop .inv .2) (s .pre .few) (t .loop-test .taken) in (
       l .log-table .ensures,
-      r .weight-table .ensures,
-      b .weight-table2 .ensures,
+      r .red-weights .ensures,
+      b .blue-weights .ensures,
       body-part ws (s .pre) a k,
       omega (arith, length-take k (drop a ws), e .block-end .ensures),
       omega (arith, length-take k (drop a ws), e .block-end .ensures, t .loop-test .taken),

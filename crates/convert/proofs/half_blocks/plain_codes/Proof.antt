@@ -1,11 +1,11 @@
 -- `convert::half_blocks::plain_codes` meets its contract. Assumes nothing.
 use borrow.Author.Needs.{needs}
 use Prim.Native.Nat.{_+_, _-_}
-use mathlib.Core.Path.{_≡_}
+use mathlib.Core.Path.{_≡_, _∙_}
 use native.Mathlib.Omega.{arith}
 use lib.ListN.{getD}
 use Rattle.number.specs.loops.Halves.{halfCode}
-use Rattle.number.proofs.Laws.{Filled, filled-none, filled-next}
+use Rattle.number.proofs.Laws.{Filled, filled-none, filled-next, plain-half}
 use Rattle.convert.proofs.half_blocks.plain_codes.Statement.{statement}
 use Rattle.convert.proofs.half_blocks.plain_codes.Tie as tie
 
@@ -19,7 +19,8 @@ loop-again : tie.Need-loop-again Inv-loop μ-loop
 loop-again c =
     let t = c .before .before in
     let s = t .before .before .before .before in
-    filled-next (t .before .loop .inv) (t .loop-test .taken) (c .plain-half-code .ensures (s .pre .1 .plain _ (t .loop-test .taken)))
+    filled-next (t .before .loop .inv) (t .loop-test .taken)
+    (c .plain-half-code .ensures ∙ plain-half _ (s .pre .1 .plain _ (t .loop-test .taken)))
 
 returns : tie.Need-returns Inv-loop μ-loop
 returns c = record { long = c .before .loop .inv .size; code = λ k h. c .before .loop .inv .entry k (omega arith) }

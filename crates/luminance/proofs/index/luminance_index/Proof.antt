@@ -7,8 +7,8 @@ use native.Mathlib.Omega.{arith}
 use borrow.Author.Needs.{needs}
 use lib.ListN.{getD}
 use lib.Pow.{pow-mono}
-use Rattle.luminance.specs.Pixels.{luminanceOf}
-use Rattle.luminance.specs.loops.Codes.{codePixel, indexOf, IsWeightTable}
+use Rattle.luminance.specs.Pixels.{codePixel, luminanceOf}
+use Rattle.luminance.specs.loops.Codes.{indexOf, IsWeightTable}
 use Rattle.luminance.proofs.Indices.{pixel-index, black-index}
 use Rattle.luminance.proofs.index.luminance_index.Statement.{statement}
 use Rattle.luminance.proofs.index.luminance_index.Tie as tie

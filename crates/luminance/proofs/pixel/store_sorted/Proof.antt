@@ -3,7 +3,7 @@ use mathlib.Core.Path.{_∙_}
 use Prim.Native.Nat.{_-_}
 use native.Mathlib.Omega.{arith}
 use borrow.Author.Needs.{needs}
-use Rattle.luminance.proofs.Storables.{unitRatio, Storable}
+use Rattle.luminance.proofs.Storables.{unitRatio, Storable, stored-in}
 use Rattle.luminance.proofs.Sticky.{jamOf}
 use Rattle.luminance.proofs.CutSums.{cut-storable, sorted-stored}
 use Rattle.luminance.proofs.pixel.store_sorted.Statement.{statement}
@@ -19,7 +19,7 @@ returns : tie.Need-returns
 unfolding jamOf
 returns c =
     let x = start (c .before) .args in
-    c .stored-ratio .ensures
+    c .stored-ratio .ensures ∙ stored-in (storable (c .before))
     ∙ sorted-stored (x .a .value) (x .b .value) (x .c .value) (x .a .exponent) (x .b .exponent) (x .c .exponent) _ _
     (c .before .before .before .before .before .add-term .ensures .0) (c .before .before .add-term2 .ensures .0)
     (omega arith) (omega arith) (omega arith) (omega arith) (storable (c .before))
@@ -28,4 +28,4 @@ pub store-sorted-spec : {M : Type 1} → statement M
 store-sorted-spec =
     tie.close
     (tie.spec (λ c. search needs) (λ c. search needs) (λ c κs. search needs) (λ c. search needs) (λ c κs. omega arith)
-    (λ c. search needs) (λ c. search needs) (λ c κs. storable c .in-range) returns)
+    (λ c. search needs) (λ c. search needs) (λ c κs. search needs) returns)

@@ -6,8 +6,9 @@ use native.Mathlib.Omega.{arith}
 use borrow.Author.Needs.{needs}
 use lib.Pow.{pow-pos}
 use Rattle.number.specs.Fractions.{Frac, _over_}
-use Rattle.number.specs.Storing.{unit, Scales, Stores, ratioOf}
+use Rattle.number.specs.Storing.{unit, Scales, Stores, ratioOf, ratioTold}
 use Rattle.number.specs.declared.ratio.StoredRatio.the-variants.{OutOfRange}
+use Rattle.refusal.proofs.Laws.{also}
 use Rattle.number.proofs.Scaling.{rescale, powers-into}
 use Rattle.number.proofs.Ranges.{small, large}
 use Rattle.number.proofs.Storing.{too-small-at, fits-at, too-large-at}
@@ -49,20 +50,23 @@ module _ (num den exp : ℕ) where
     at h = moved 128 (exp + down - (up + 9)) (omega arith)
 
 returns : tie.Need-returns
-returns c = sym (no-numerator _ _ _ (c .if1 .taken))
+returns c = also ratioTold (sym (no-numerator _ _ _ (c .if1 .taken)))
 
 returns-2 : tie.Need-returns-2
-returns-2 c = sym (no-denominator _ _ _ (omega arith) (c .if2 .taken))
+returns-2 c = also ratioTold (sym (no-denominator _ _ _ (omega arith) (c .if2 .taken)))
 
 returns-3 : tie.Need-returns-3
-returns-3 c = sym (negative _ _ _ _ _ (c .before .before .before .scale .ensures) (c .if3 .taken))
+returns-3 c = also ratioTold (sym (negative _ _ _ _ _ (c .before .before .before .scale .ensures) (c .if3 .taken)))
 
 returns-4 : tie.Need-returns-4
 returns-4 c =
-    sym (too-large-at (at _ _ _ _ _ (c .before .before .before .before .scale .ensures) (c .before .if3 .left)) (c .if4 .taken))
+    also ratioTold
+    (sym (too-large-at (at _ _ _ _ _ (c .before .before .before .before .scale .ensures) (c .before .if3 .left)) (c .if4 .taken)))
 
 returns-5 : tie.Need-returns-5
-returns-5 c = sym (fits-at (at _ _ _ _ _ (c .before .before .before .before .scale .ensures) (c .before .if3 .left)) (c .if4 .left))
+returns-5 c =
+    also ratioTold
+    (sym (fits-at (at _ _ _ _ _ (c .before .before .before .before .scale .ensures) (c .before .if3 .left)) (c .if4 .left)))
 
 pub store-ratio-spec : {M : Type 1} → statement M
 store-ratio-spec =

@@ -1,6 +1,8 @@
 -- `number::source::half_code` meets its contract. Assumes nothing.
 use borrow.Author.Needs.{needs}
+use mathlib.Core.Path.{_∙_}
 use native.Mathlib.Omega.{arith}
+use Rattle.number.proofs.Halves.{plain-half}
 use Rattle.number.proofs.source.half_code.Statement.{statement}
 use Rattle.number.proofs.source.half_code.Tie as tie
 
@@ -10,4 +12,4 @@ half-code-spec =
     (tie.spec
     (λ c κs. search needs) (λ c κs. search needs) (λ c κs. search needs) (λ c κs. search needs)
     (λ c. rw (c .before .half-to-channel .ensures .0) at (c .decoded-code .ensures))
-    (λ c. c .plain-half-code .ensures (omega arith)))
+    (λ c. c .plain-half-code .ensures ∙ plain-half _ (omega arith)))

@@ -1,12 +1,11 @@
 -- `tone::factor::wide_level` meets its contract. Assumes nothing.
-use mathlib.Core.Path.{_≡_, _∙_, ap}
+use mathlib.Core.Path.{_≡_, ap}
 use Prim.Native.Nat.{ℕ, _+_, _*_, _/_, _%_, _^_, _≤_}
 use native.Mathlib.Nat.{mul-le-mul}
 use native.Mathlib.Omega.{arith}
 use lib.ListN.{getD}
 use borrow.Author.Needs.{needs}
-use Rattle.tone.specs.loops.Factors.{powerAt}
-use Rattle.tone.proofs.Factors.{levelBy, level-by-factor}
+use Rattle.tone.specs.loops.Factors.{powerAt, wideLevel}
 use Rattle.tone.proofs.Powers.{power-most}
 use Rattle.tone.proofs.factor.wide_level.Statement.{statement}
 use Rattle.tone.proofs.factor.wide_level.Tie as tie
@@ -38,11 +37,8 @@ module _ (c : tie.Start) where
   products = mul-le-mul {m₂ = 2 ^ 11} product (rw got (power-most _))
 
 returns : tie.Need-returns
-returns c =
-    let s = c .before in (
-      λ d y md my q. ap (λ (p : ℕ). levelBy (scale s) (value s) p) (got s) ∙ level-by-factor d y md my _ _ q (s .pre .1),
-      λ q. let none : scale s * value s * power s ≡ 0 = rw q (omega arith) in omega arith,
-    )
+unfolding wideLevel
+returns c = let s = c .before in ap (λ (p : ℕ). (scale s * value s * p + 2 ^ 45) / 2 ^ 46) (got s)
 
 pub wide-level-spec : {M : Type 1} → statement M
 wide-level-spec =

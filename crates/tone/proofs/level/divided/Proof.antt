@@ -7,6 +7,7 @@ use borrow.Author.Needs.{needs}
 use lib.Dec.{lit<}
 use Rattle.tone.proofs.Displays.{Divided, below-one, above-one}
 use Rattle.luminance.proofs.Products.{shift-most}
+use Rattle.luminance.proofs.Storables.{stored-in}
 use Rattle.tone.proofs.level.divided.Statement.{statement}
 use Rattle.tone.proofs.level.divided.Tie as tie
 
@@ -24,10 +25,10 @@ divided-spec =
     (tie.spec
     (λ c κs. (omega arith, lt-of-le-of-lt (shift-most 1 _ 1 63 (omega arith) (omega arith)) (lit< tt)))
     (λ c. omega (arith, below c .0))
-    (λ c κs. below c .1 .storable .in-range)
-    (λ c. c .stored-ratio .ensures ∙ below (c .before) .1 .same)
+    (λ c κs. search needs)
+    (λ c. let d = below (c .before) .1 in c .stored-ratio .ensures ∙ stored-in (d .storable) ∙ d .same)
     (λ c. search needs)
     (λ c κs. (omega arith, lt-of-le-of-lt (shift-most _ _ 511 54 (omega arith) (omega arith)) (lit< tt)))
     (λ c. omega (arith, above c .0))
-    (λ c κs. above c .1 .storable .in-range)
-    (λ c. c .stored-ratio2 .ensures ∙ above (c .before) .1 .same))
+    (λ c κs. search needs)
+    (λ c. let d = above (c .before) .1 in c .stored-ratio2 .ensures ∙ stored-in (d .storable) ∙ d .same))

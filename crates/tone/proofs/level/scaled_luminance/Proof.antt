@@ -2,6 +2,7 @@
 use mathlib.Core.Path.{_∙_}
 use native.Mathlib.Omega.{arith}
 use borrow.Author.Needs.{needs}
+use Rattle.luminance.proofs.Storables.{stored-in}
 use Rattle.tone.proofs.Scaled.{scaled-num, scaled-storable, scaled-stored}
 use Rattle.tone.proofs.level.scaled_luminance.Statement.{statement}
 use Rattle.tone.proofs.level.scaled_luminance.Tie as tie
@@ -11,17 +12,14 @@ mul-stored-ratio-2 c =
     let x = c .before .before .args in let p = c .before .before .pre in
     omega (arith, scaled-num (x .tone) (x .luminance) (p .0) (p .1) .1)
 
-stored-ratio-requires : tie.Need-stored-ratio-requires
-stored-ratio-requires c κs =
-    let p = c .before .before .before .before .before .pre in scaled-storable _ _ (p .0) (p .1) .in-range
-
 returns : tie.Need-returns
 returns c =
-    let p = c .before .before .before .before .before .before .pre in c .stored-ratio .ensures ∙ scaled-stored _ _ (p .0) (p .1)
+    let p = c .before .before .before .before .before .before .pre in
+    c .stored-ratio .ensures ∙ stored-in (scaled-storable _ _ (p .0) (p .1)) ∙ scaled-stored _ _ (p .0) (p .1)
 
 pub scaled-luminance-spec : {M : Type 1} → statement M
 scaled-luminance-spec =
     tie.close
     (tie.spec (λ c. search needs) (λ c. search needs) (λ c. search needs) mul-stored-ratio-2 (λ c. search needs) (λ c. search needs)
     (λ c. search needs) (λ c. search needs) (λ c. search needs) (λ c. search needs) (λ c. search needs) (λ c. search needs)
-    stored-ratio-requires returns)
+    (λ c κs. search needs) returns)
