@@ -1,6 +1,6 @@
 //! The calls that are compared, as the C interface answers them. The trait lets a self-check put a wrong answer in their place.
 
-use dofnihet::raw::{self, Header as RawHeader, Outcome, Row, Tally};
+use dofnihet::raw::{self, Header as RawHeader, Outcome, Row, Step, Tally};
 use dofnihet::{Header, Source};
 
 pub trait Calls: Sync {
@@ -10,6 +10,7 @@ pub trait Calls: Sync {
     fn map(&self, strip: &[u32], output: &mut [u8]) -> Outcome;
     fn header(&self, strip: &[u32]) -> RawHeader;
     fn row(&self, strip: &[u32], y: u64) -> Row;
+    fn step(&self, strip: &[u32], n: u64) -> Step;
     fn tally(&self, strip: &[u32]) -> Tally;
 }
 
@@ -39,6 +40,10 @@ impl Calls for Library {
 
     fn row(&self, strip: &[u32], y: u64) -> Row {
         raw::row(strip, y)
+    }
+
+    fn step(&self, strip: &[u32], n: u64) -> Step {
+        raw::step(strip, n)
     }
 
     fn tally(&self, strip: &[u32]) -> Tally {

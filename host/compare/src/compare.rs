@@ -4,7 +4,8 @@ use crate::calls::Calls;
 use crate::counts::Counts;
 use crate::elements::Elements;
 use crate::lent::{Element, Lent};
-use dofnihet::raw::{Header as RawHeader, Outcome, Row, Tally};
+use crate::random::Random;
+use dofnihet::raw::{Header as RawHeader, Outcome, Row, Step, Tally};
 use dofnihet::{Header, Source};
 use second::{Refusal, Rules, SecondStep};
 use std::fmt;
@@ -131,6 +132,18 @@ impl<'a> Compare<'a> {
         Ok((number, place))
     }
 
+    /// Step n of a reader, as the library told it.
+    pub fn step(&mut self, strip: &[u32], n: u64) -> Result<Step, Difference> {
+        let expected = raw_step(&self.second.reader_step(strip, n));
+        let read = strip.to_vec();
+        let answer = self.calls.step(&read, n);
+        let what = || format!("step {n} of {}", show_strip(strip));
+        unchanged(strip, std::hint::black_box(&read), &what)?;
+        self.count((expected.number, expected.place));
+        equal(&expected, &answer, &what)?;
+        Ok(answer)
+    }
+
     /// The tally, as the library told it.
     pub fn tally(&mut self, strip: &[u32]) -> Result<Tally, Difference> {
         let expected = raw_tally(&self.second.tally(strip));
@@ -172,12 +185,15 @@ impl<'a> Compare<'a> {
         Ok((told, output.front(levels.len()).to_vec()))
     }
 
-    /// Every call on a strip, with several rows and outputs, and demand 3 where the page is lit.
+    /// Every call on a strip, with several rows, steps and outputs, and demand 3 where the page is lit.
     pub fn strip(&mut self, strip: &[u32]) -> Result<Told, Difference> {
         let told = self.check(strip)?;
         self.header(strip)?;
         for y in rows(strip) {
             self.row(strip, y)?;
+        }
+        for n in step_numbers(strip) {
+            self.step(strip, n)?;
         }
         let tally = self.tally(strip)?;
         let needed = strip.len().saturating_sub(3);
@@ -265,6 +281,20 @@ fn told<T>(answer: &Result<T, Refusal>) -> Told {
     }
 }
 
+/// The six fields of a reader's step; free fields are 0.
+pub fn raw_step(answer: &Result<Option<[u16; 3]>, Refusal>) -> Step {
+    let (number, place) = told(answer);
+    let [red, green, blue] = answer.unwrap_or_default().unwrap_or_default().map(u64::from);
+    Step {
+        number,
+        place,
+        over: (*answer == Ok(None)) as u64,
+        red,
+        green,
+        blue,
+    }
+}
+
 /// The eight fields of a tally; free fields are 0.
 pub fn raw_tally(answer: &Result<second::Tally, Refusal>) -> Tally {
     let (number, place) = told(answer);
@@ -320,6 +350,22 @@ fn rows(strip: &[u32]) -> Vec<u64> {
     let mut rows: Vec<u64> = (0..height.min(8)).collect();
     rows.extend([height / 2, last, height, height + 1, 1 << 32, (1 << 32) + last, 1 << 63, u64::MAX]);
     rows
+}
+
+/// Steps of a reader to ask for: of a short strip all up to a few behind the last pixel, and numbers far above, some of which lie within the
+/// page once they, three or twelve times them are cut to 32 or 64 bits; of a long one the first, any two, those around the end and two above.
+pub fn step_numbers(strip: &[u32]) -> Vec<u64> {
+    let pixels = strip.len().saturating_sub(3) as u64 / 3;
+    let last = pixels.saturating_sub(1);
+    if pixels > 100 {
+        let random = &mut Random::new(strip[strip.len() / 2] as u64);
+        let (some, other) = (random.below(pixels), random.below(pixels));
+        return vec![0, some, other, last - 1, last, pixels, pixels + 1, (1 << 32) + last, u64::MAX];
+    }
+    let mut numbers: Vec<u64> = (0..pixels + 3).collect();
+    numbers.extend([1 << 32, (1 << 32) + last, 0x5555_5556, 0xAAAA_AAAB]);
+    numbers.extend([0x5555_5555_5555_5556, 0xAAAA_AAAA_AAAA_AAAB, 1 << 62, 1 << 63, u64::MAX]);
+    numbers
 }
 
 fn different(what: &dyn Fn() -> String, fault: String) -> Difference {

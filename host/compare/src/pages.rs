@@ -38,6 +38,12 @@ impl Page {
         strip
     }
 
+    /// Pixel n, counted from 0, where there is one.
+    pub fn pixel(&self, n: u64) -> Option<[u16; 3]> {
+        let pixels = self.channels.as_chunks().0;
+        usize::try_from(n).ok().and_then(|n| pixels.get(n).copied())
+    }
+
     /// One row of pixels.
     pub fn row(key: u64, pixels: &[[u16; 3]]) -> Page {
         Page {

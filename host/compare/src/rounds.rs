@@ -1,6 +1,6 @@
 //! One round: new pages, sources, damage and faults from one seed, each compared.
 
-use crate::compare::{show_source, show_strip, Compare, Difference, Told, ACCEPTED};
+use crate::compare::{show_source, show_strip, step_numbers, Compare, Difference, Told, ACCEPTED};
 use crate::elements::{Elements, KINDS};
 use crate::pages::Page;
 use crate::program::{self, Printed};
@@ -123,7 +123,7 @@ pub fn strip_fault_case(compare: &mut Compare, list: &[strip_faults::Fault]) -> 
     use strip_faults::{first, Asked, Case};
     let Case { strip, y, room } = Case::sound().with(list);
     let tally = compare.tally(&strip)?;
-    let answers = [
+    let mut answers = vec![
         (Asked::Strip, compare.check(&strip)?),
         (Asked::Strip, compare.header(&strip)?),
         (Asked::Strip, (tally.number, tally.place)),
@@ -131,6 +131,10 @@ pub fn strip_fault_case(compare: &mut Compare, list: &[strip_faults::Fault]) -> 
         (Asked::Output, compare.unpack(&strip, room)?),
         (Asked::Output, compare.map(&strip, room)?.0),
     ];
+    for n in step_numbers(&strip) {
+        let step = compare.step(&strip, n)?;
+        answers.push((Asked::Strip, (step.number, step.place)));
+    }
     for (asked, told) in answers {
         if told != first(list, asked) {
             return Err(Difference(format!(

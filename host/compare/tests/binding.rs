@@ -1,5 +1,6 @@
 //! The Rust binding's calls beside the C interface's: the same answers as slices and results.
 
+use compare::compare::step_numbers;
 use compare::pages::{self, LOOKS};
 use compare::{damage, values, Calls, Elements, Library, Random};
 use dofnihet::{Average, Header, Refusal, Tally};
@@ -30,6 +31,13 @@ fn same(strip: &[u32], y: u64) {
     let row = Library.row(strip, y);
     let part = &strip[row.start as usize..(row.start + row.length) as usize];
     assert_eq!(dofnihet::row(strip, y), refusal(row.number, row.place).map(|_| part));
+
+    for n in step_numbers(strip) {
+        let step = Library.step(strip, n);
+        let pixel = [step.red, step.green, step.blue].map(|channel| channel as u16);
+        let expected = if step.over == 1 { None } else { Some(pixel) };
+        assert_eq!(dofnihet::step(strip, n), told.map(|_| expected));
+    }
 
     let tally = Library.tally(strip);
     let average = Average {

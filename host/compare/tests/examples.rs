@@ -1,6 +1,7 @@
 //! The worked examples of document 01 through the C interface. Every expected value is the paper's, or follows from its rules where a
 //! comment says how.
 
+use compare::compare::raw_step;
 use compare::pages::{header, stored, Page};
 use compare::{program, Calls, Elements, Library};
 use second::whole::Whole;
@@ -107,6 +108,16 @@ fn pages() {
     assert_eq!(levels(&strip(&red, 180).unwrap()), [145, 0, 0]);
     assert_eq!(levels(&strip(&red, 1000).unwrap()), [255, 0, 0]);
     println!("examples of pages: 6");
+}
+
+/// The picture program's page, whose words hold 80FF and 7FFF, pixel by pixel and beyond.
+#[test]
+fn reader() {
+    let strip = greys(&[0x3C00, 0x3800]);
+    for (n, answer) in [(0, Some([0x80FF; 3])), (1, Some([0x7FFF; 3])), (2, None), (u64::MAX, None)] {
+        assert_eq!(Library.step(&strip, n), raw_step(&Ok(answer)));
+    }
+    println!("examples of the page reader: 4");
 }
 
 /// The picture program's page, word by word and byte by byte.

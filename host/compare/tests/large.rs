@@ -1,12 +1,12 @@
-//! One page of 16,777,216 pixels: converted, unpacked, tallied and mapped on both sides, and the second half of demand 3 on all of it.
-//! Pages of 1,048,576 pixels from the other sources.
+//! One page of 16,777,216 pixels: converted, unpacked, tallied, mapped and read at its end on both sides, and the second half of demand 3
+//! on all of it. Pages of 1,048,576 pixels from the other sources.
 
-use compare::compare::raw_tally;
+use compare::compare::{raw_step, raw_tally};
 use compare::lent::Lent;
 use compare::pages::{self, Look, Page};
 use compare::rounds::converted;
 use compare::{same, values, Calls, Compare, Kind, Library, Random};
-use dofnihet::raw::{Outcome, Tally};
+use dofnihet::raw::{Outcome, Step, Tally};
 use dofnihet::Source;
 use second::{LevelDistances, Rules, SecondStep};
 use std::thread;
@@ -14,6 +14,8 @@ use std::thread;
 const SEED: u64 = 1101;
 const WIDTH: u64 = 8192;
 const HEIGHT: u64 = 2048;
+/// The last pixel, and the first step behind it.
+const STEPS: [u64; 2] = [WIDTH * HEIGHT - 1, WIDTH * HEIGHT];
 const ACCEPTED: Outcome = Outcome { number: 0, place: 0 };
 
 /// Rows of different looks, so that exponents 72 to 184 stand side by side.
@@ -38,6 +40,7 @@ struct ByLibrary {
     strip: Lent<u32>,
     channels: Lent<u16>,
     levels: Lent<u8>,
+    steps: [Step; 2],
     tally: Tally,
     distances: LevelDistances,
 }
@@ -50,6 +53,7 @@ fn by_library(step: &SecondStep, page: &Page, strip: &[u32]) -> ByLibrary {
         Library.unpack(strip, channels.output()),
         Library.map(strip, levels.output()),
     ];
+    let steps = STEPS.map(|n| Library.step(strip, n));
     let tally = Library.tally(strip);
     let average = second::Average {
         steps: tally.average,
@@ -62,6 +66,7 @@ fn by_library(step: &SecondStep, page: &Page, strip: &[u32]) -> ByLibrary {
         strip: made,
         channels,
         levels,
+        steps,
         tally,
         distances,
     }
@@ -70,6 +75,7 @@ fn by_library(step: &SecondStep, page: &Page, strip: &[u32]) -> ByLibrary {
 struct BySecond {
     strip: Vec<u32>,
     levels: Vec<u8>,
+    steps: [Step; 2],
     tally: Tally,
 }
 
@@ -85,8 +91,14 @@ fn by_second(step: &SecondStep, page: &Page) -> BySecond {
         .convert(second::Source::Stored(&page.channels), header, page.channels.len() + 8)
         .unwrap_or_default();
     let levels = step.levels(&strip, page.channels.len()).unwrap_or_default();
+    let steps = STEPS.map(|n| raw_step(&step.reader_step(&strip, n)));
     let tally = raw_tally(&step.tally(&strip));
-    BySecond { strip, levels, tally }
+    BySecond {
+        strip,
+        levels,
+        steps,
+        tally,
+    }
 }
 
 /// Both sides at once.
@@ -109,6 +121,7 @@ fn a_page_of_all_pixels() {
     library.strip.holds(&second.strip).unwrap();
     library.channels.holds(&page.channels).unwrap();
     library.levels.holds(&second.levels).unwrap();
+    assert_eq!(library.steps, second.steps);
     assert_eq!(library.tally, second.tally);
     assert!(
         page.channels == kept.channels && page.strip() == strip,

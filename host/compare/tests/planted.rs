@@ -2,7 +2,7 @@
 
 use compare::pages::Page;
 use compare::{program, Calls, Compare, Elements, Library};
-use dofnihet::raw::{Header as RawHeader, Outcome, Row, Tally};
+use dofnihet::raw::{Header as RawHeader, Outcome, Row, Step, Tally};
 use dofnihet::{Header, Source};
 
 /// The library with one thing wrong, and the list of these things.
@@ -25,6 +25,8 @@ planted! {
     LevelMore LevelLess MapBehind MapRefused
     HeaderWidth HeaderHeight HeaderKey HeaderOfRefused
     RowStart RowLength RowOfRefused
+    StepNumber StepPlace StepOver StepRed StepGreen StepBlue StepOfOver StepOfRefused OverOfRefused
+    StepRepeated StepSkipped StepCut StepNeverOver StepsAnew StepOverFirst StepRefusedOnce StepRefusedLate
     Lit Sum Present Average Exponent Mantissa TallyOfRefused
 }
 
@@ -109,6 +111,31 @@ impl Calls for Planted {
             start: self.on(RowStart, told.start),
             length: self.on(RowLength, told.length) + (*self == RowOfRefused && told.number > 0) as u64,
             ..told
+        }
+    }
+
+    fn step(&self, strip: &[u32], n: u64) -> Step {
+        let pixels = strip.len() as u64 / 3 - 1;
+        let asked = match self {
+            StepRepeated => 0,
+            StepSkipped => n.saturating_add(1),
+            StepCut => n as u32 as u64,
+            StepNeverOver => n.min(pixels - 1),
+            StepsAnew if n > pixels => n % pixels,
+            StepOverFirst if n == 0 => pixels,
+            _ => n,
+        };
+        let told = Library.step(strip, asked);
+        let (refused, over) = (told.number > 0, told.over == 1);
+        let silent = *self == StepRefusedOnce && n > 0 || *self == StepRefusedLate && n == 0;
+        let (number, place) = if silent { (0, 0) } else { (told.number, told.place) };
+        Step {
+            number: self.on(StepNumber, number),
+            place: self.on(StepPlace, place),
+            over: self.on(StepOver, told.over) + (*self == OverOfRefused && refused) as u64,
+            red: self.on(StepRed, told.red) + (*self == StepOfRefused && refused) as u64,
+            green: self.on(StepGreen, told.green),
+            blue: self.on(StepBlue, told.blue) + (*self == StepOfOver && over) as u64,
         }
     }
 

@@ -1,5 +1,6 @@
 //! Strips: pages of every look and shape, and damaged ones.
 
+use compare::compare::raw_step;
 use compare::pages::{self, Look, Page, LOOKS, SHAPES};
 use compare::{damage, powers, same, Compare, Elements, Library, Random};
 
@@ -137,4 +138,29 @@ fn every_row() {
         same(seed, compare.row(&highest, y));
     }
     println!("every row, seed {seed}: {}", compare.counts);
+}
+
+/// Every step of a reader over pages of several shapes, and the numbers after them; of long pages some. The page's own channels tell each.
+#[test]
+fn every_step() {
+    let seed = SEED + 6;
+    let (random, mut compare) = (&mut Random::new(seed), Compare::new(&Library));
+    let mut read = |page: &Page, strip: &[u32], n| assert_eq!(same(seed, compare.step(strip, n)), raw_step(&Ok(page.pixel(n))));
+    for (look, (width, height)) in LOOKS
+        .iter()
+        .flat_map(|look| [(1, 200), (150, 1), (17, 13)].map(|shape| (*look, shape)))
+    {
+        let page = pages::page(random, look, width, height);
+        let strip = page.strip();
+        (0..width * height + 5).for_each(|n| read(&page, &strip, n));
+    }
+    for (width, height) in [(1, 8192), (8192, 1), (130, 70)] {
+        let page = pages::page(random, Look::Wide, width, height);
+        let strip = page.strip();
+        for _ in 0..100 {
+            read(&page, &strip, random.below(width * height + 50));
+            read(&page, &strip, random.bits() >> random.below(64));
+        }
+    }
+    println!("every step, seed {seed}: {}", compare.counts);
 }

@@ -89,6 +89,12 @@ impl SecondStep {
         strip::row(&self.rules, strip, y)
     }
 
+    /// Step n, counted from 0, of a reader opened over the strip: a pixel's numbers 256E + M, or None where the page is over.
+    pub fn reader_step(&self, strip: &[u32], n: u64) -> Result<Option<[u16; 3]>, Refusal> {
+        let pixel = strip::reader_step(&self.rules, strip, n)?;
+        Ok(pixel.map(|pixel| pixel.map(|channel| channel.bits())))
+    }
+
     /// An accepted strip as a stored row; `room` is in its 16-bit numbers.
     pub fn unpack(&self, strip: &[u32], room: usize) -> Result<Vec<u16>, Refusal> {
         let header = strip::accept(&self.rules, strip, Some(room))?;

@@ -168,6 +168,13 @@ pub fn row(rules: &Rules, strip: &[u32], y: u64) -> Result<std::ops::Range<usize
     Ok(start..start + length)
 }
 
+/// "any run of it answers as the list of the pixels, then 'page over', and stays there"; "a reader over a refused strip tells that number
+/// and place at every step." None is 'page over'; a number too great for an index lies behind every page.
+pub fn reader_step(rules: &Rules, strip: &[u32], n: u64) -> Result<Option<Pixel>, Refusal> {
+    let header = accept(rules, strip, None)?;
+    Ok(usize::try_from(n).ok().and_then(|n| pixels(strip, &header).nth(n)))
+}
+
 /// The channel words of a strip of the right length.
 fn channel_words<'a>(strip: &'a [u32], header: &Header) -> &'a [u32] {
     &strip[header.front()..strip.len() - 1]

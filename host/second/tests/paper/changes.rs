@@ -49,6 +49,7 @@ fn dark_pages() {
         assert_eq!(dark().picture(&bytes(&strip)), b"refused 9 0\n");
         assert!(dark().check(&strip).is_ok() && dark().row(&strip, 0).is_ok());
         assert!(dark().header(&strip).is_ok() && dark().unpack(&strip, 3 * pixels).is_ok());
+        assert!(dark().reader_step(&strip, 0).is_ok());
         assert!(base().tally(&strip).is_ok() && base().levels(&strip, 3 * pixels).is_ok());
     }
     for (lit, pixels) in [(1, 1), (1, 16), (2, 32), (3, 33)] {
@@ -99,6 +100,8 @@ fn white_form() {
     assert_eq!(white().header(&white_page(None)), Ok(white_header(None)));
     assert_eq!(white().row(&WHITE_EXAMPLE, 0), Ok(3..6));
     assert_eq!(white().row(&white_page(None), 0), Ok(2..5));
+    assert_eq!(white().reader_step(&WHITE_EXAMPLE, 0), Ok(Some([stored(128, 255); 3])));
+    assert_eq!(white().reader_step(&WHITE_EXAMPLE, 1), Ok(None));
     assert_eq!(white().unpack(&WHITE_EXAMPLE, 3), Ok(vec![stored(128, 255); 3]));
     assert_eq!(white().tally(&WHITE_EXAMPLE), base().tally(&white_page(None)));
 }

@@ -257,6 +257,27 @@ fn rows() {
     assert_eq!(base().row(&strip, 2), Ok(14..20));
 }
 
+/// 80FF is 256 · 128 + 255, and 7FFF is 256 · 127 + 255.
+#[test]
+fn reader_of_two_greys() {
+    let read = |n| base().reader_step(&EXAMPLE, n);
+    assert_eq!(read(0), Ok(Some([stored(128, 255); 3])));
+    assert_eq!(read(1), Ok(Some([stored(127, 255); 3])));
+    for over in [2, 3, 1 << 32, (1 << 32) + 1, 1 << 63, u64::MAX] {
+        assert_eq!(read(over), Ok(None));
+    }
+}
+
+/// The example's words with a black red, the half 0003 as green and the single 5B800000 as blue of the first pixel; upright, as two rows.
+#[test]
+fn reader_of_channels() {
+    let mut strip = EXAMPLE;
+    strip[..5].copy_from_slice(&[0x10004002, 0x200000B4, 0x40000000, 0x50006AC0, 0x6000B8FF]);
+    assert_eq!(base().reader_step(&strip, 0), Ok(Some([BLACK, stored(106, 192), stored(184, 255)])));
+    assert_eq!(base().reader_step(&strip, 1), Ok(Some([stored(127, 255); 3])));
+    assert_eq!(base().reader_step(&strip, 2), Ok(None));
+}
+
 #[test]
 fn unpacking_undoes_converting() {
     let source = Generator::new(4).page(500);

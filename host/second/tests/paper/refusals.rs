@@ -80,11 +80,14 @@ fn stored_elements() {
     }
 }
 
-/// What every call on a strip answers, the row asked and the room lent being good.
+/// What every call on a strip answers, the row asked and the room lent being good; a reader does at every step.
 fn on_strip(step: &SecondStep, strip: &[u32]) -> Result<(), Refusal> {
     let answer = step.check(strip);
     assert_eq!(step.header(strip).map(|_| ()), answer);
     assert_eq!(step.row(strip, 0).map(|_| ()), answer);
+    for n in [0, 1, 2, u64::MAX] {
+        assert_eq!(step.reader_step(strip, n).map(|_| ()), answer);
+    }
     assert_eq!(step.unpack(strip, NO_ROOM_LIMIT).map(|_| ()), answer);
     assert_eq!(step.tally(strip).map(|_| ()), answer);
     assert_eq!(step.levels(strip, NO_ROOM_LIMIT).map(|_| ()), answer);
@@ -224,6 +227,7 @@ fn nothing_panics() {
                 step.picture(&bytes(&strip)),
                 step.tally(&strip),
                 step.row(&strip, generator.below(3)),
+                step.reader_step(&strip, generator.below(3)),
             );
             let _ = (step.mean_holds(&strip, -129), step.mean_above(&strip, -129));
         }
