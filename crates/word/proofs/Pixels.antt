@@ -8,11 +8,10 @@ use lib.ListN.{length, getD, take, drop, length-drop, length-map, take-append-dr
 use lib.Seq.{take-suc, drop-cons, length-take-le, take-at, drop-at}
 use Rattle.number.specs.declared.channel.Channel.{Channel}
 use Rattle.number.specs.declared.channel.Channel.the-variants.{Black}
-use Rattle.number.specs.declared.channel.Decoded.{Decoded}
-use Rattle.number.specs.declared.channel.Decoded.the-variants.{Holds, Refuses}
+use Rattle.number.specs.declared.channel.Decoded.the-variants.{Holds}
 use Rattle.number.specs.declared.channel.Pixel.{Pixel}
-use Rattle.number.specs.Channels.{channelOfCode, channelIn}
-use Rattle.number.proofs.Laws.{IsChannel, channel-code, code-channel}
+use Rattle.number.specs.Channels.{channelOfCode}
+use Rattle.number.proofs.Laws.{IsChannel, code-channel, code-valid}
 use Rattle.word.specs.Fields.{low16, decodeWord}
 use Rattle.word.specs.Pixels.{pixelOf, pixelsOf, wordChannel, wordPixels}
 use Rattle.word.specs.loops.Walks.{pixelAt}
@@ -55,12 +54,8 @@ word-channel k w {c} e =
     rw (← q .code, code-channel c (q .valid))
 
 -- whatever the word
-decoded-valid : (n : ℕ) (d : Decoded) → channelOfCode n ≡ d → IsChannel (channelIn d)
-decoded-valid n (Holds c) e = channel-code n c e .valid
-decoded-valid n (Refuses r) e = tt
-
 pub word-valid : (w : ℕ) → IsChannel (wordChannel w)
-word-valid w = decoded-valid (low16 w) _ refl
+word-valid w = code-valid (low16 w)
 
 -- ---- pixel p of channel words
 
