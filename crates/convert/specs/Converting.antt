@@ -1,27 +1,16 @@
 -- Converting: its checks in their order, and the strip that it writes. Assumes nothing.
 -- "Converting: 1, 2, 3, 4, then elements in order, 5 before 6; a stored row can only give 8 there."
-use Prim.Native.Nat.{ℕ, _*_}
+use Prim.Native.Nat.{ℕ}
 use mathlib.Core.List.{List, map}
 use lib.ListN.{length}
-use lib.Dec.{leb, eqb}
 use Rattle.number.specs.Channels.{codeOf}
-use Rattle.refusal.specs.declared.Refusal.the-variants.{BadSize, BadKey, WrongLength, SmallOutput}
 use Rattle.refusal.specs.declared.Verdict.{Verdict}
-use Rattle.refusal.specs.declared.Verdict.the-variants.{Accepted}
-use Rattle.refusal.specs.Verdicts.{require, andThen}
+use Rattle.refusal.specs.Verdicts.{andThen}
 use Rattle.word.specs.declared.header.Header.{Header}
-use Rattle.word.specs.Words.{pixels, sizeFits, keyFits, stripLength, stripOf}
+use Rattle.word.specs.Words.{stripOf}
 use Rattle.word.specs.Placing.{firstRefusal, channelsOf}
+use Rattle.frame.specs.Frames.{checkFrame}
 use Rattle.convert.specs.Formats.{Format, perPixel, decodedSource}
-
--- the checks of a source of `count` elements, `per` of them a pixel, and of an output of `room` words
-unfoldable pub checkFrame : Header → (per count room : ℕ) → Verdict
-checkFrame h per count room =
-    require (sizeFits (h .width) (h .height)) BadSize 0
-    (require (keyFits (h .key)) BadKey 0
-    (require (eqb count (per * pixels h)) WrongLength 0
-    (require (leb (stripLength h) room) SmallOutput 0
-    Accepted)))
 
 -- An element is refused by one number only: what is no number by 5, and only what is one can be too bright.
 unfoldable pub checkSource : Format → Header → List ℕ → (room : ℕ) → Verdict

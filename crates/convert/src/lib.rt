@@ -1,5 +1,4 @@
 // Source pictures into strips: RGBE, half and single floats, and stored channels.
-pub mod frame;
 pub mod half;
 mod half_blocks;
 pub mod rgbe;

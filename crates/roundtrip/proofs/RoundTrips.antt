@@ -45,9 +45,11 @@ use Rattle.convert.specs.Formats.{
   rgbePixels,
   decodedSource,
 }
-use Rattle.convert.specs.Converting.{checkFrame, checkSource, converted}
+use Rattle.frame.specs.Frames.{checkFrame}
+use Rattle.frame.proofs.Frames.{Page, page}
+use Rattle.convert.specs.Converting.{checkSource, converted}
 use Rattle.roundtrip.specs.Claims.{Yields, ReadsBack, WritesAgain, ConvertsByCodes}
-use Rattle.convert.proofs.Pages.{Page, page, channel-count}
+use Rattle.convert.proofs.Pages.{channel-count}
 
 -- ---- every channel of an accepted source is one
 

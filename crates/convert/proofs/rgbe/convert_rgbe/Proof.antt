@@ -6,7 +6,8 @@ use native.Mathlib.Omega.{arith}
 use lib.ListN.{length}
 use denote.Ref.{now}
 use Rattle.convert.specs.Formats.{rgbe}
-use Rattle.convert.proofs.Pages.{Page, page, page-refused, element-refused, accepted}
+use Rattle.frame.proofs.Frames.{Page, page}
+use Rattle.convert.proofs.Pages.{page-refused, element-refused, accepted}
 use Rattle.convert.proofs.rgbe.convert_rgbe.Statement.{statement}
 use Rattle.convert.proofs.rgbe.convert_rgbe.Tie as tie
 

@@ -6,7 +6,8 @@ use native.Mathlib.Omega.{arith}
 use lib.ListN.{length}
 use denote.Ref.{now}
 use Rattle.convert.specs.Formats.{single}
-use Rattle.convert.proofs.Pages.{Page, page, page-refused, element-refused, accepted}
+use Rattle.frame.proofs.Frames.{Page, page}
+use Rattle.convert.proofs.Pages.{page-refused, element-refused, accepted}
 use Rattle.convert.proofs.single.convert_single.Statement.{statement}
 use Rattle.convert.proofs.single.convert_single.Tie as tie
 

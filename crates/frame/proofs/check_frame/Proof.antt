@@ -1,4 +1,4 @@
--- `convert::frame::check_frame` meets its contract: its tests are those of `checkFrame`, in the same order. Assumes nothing.
+-- `frame::check_frame` meets its contract: its tests are those of `checkFrame`, in the same order. Assumes nothing.
 use borrow.Author.Needs.{needs}
 use Prim.Native.Nat.{_≤_}
 use mathlib.Core.Path.{_≡_, sym, _∙_}
@@ -10,9 +10,9 @@ use Rattle.refusal.proofs.Laws.{also}
 use Rattle.refusal.specs.Verdicts.{require, reportOf}
 use Rattle.word.specs.Words.{sizeFits, keyFits}
 use Rattle.word.proofs.Limits.{size-limits}
-use Rattle.convert.specs.Converting.{checkFrame}
-use Rattle.convert.proofs.frame.check_frame.Statement.{statement}
-use Rattle.convert.proofs.frame.check_frame.Tie as tie
+use Rattle.frame.specs.Frames.{checkFrame}
+use Rattle.frame.proofs.check_frame.Statement.{statement}
+use Rattle.frame.proofs.check_frame.Tie as tie
 
 returns : tie.Need-returns
 unfolding checkFrame require

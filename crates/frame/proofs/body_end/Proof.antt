@@ -1,9 +1,9 @@
--- `convert::frame::body_end` meets its contract: an accepted size has few pixels. Assumes nothing.
+-- `frame::body_end` meets its contract: an accepted size has few pixels. Assumes nothing.
 use borrow.Author.Needs.{needs}
 use native.Mathlib.Omega.{arith}
 use Rattle.word.proofs.Limits.{size-limits}
-use Rattle.convert.proofs.frame.body_end.Statement.{statement}
-use Rattle.convert.proofs.frame.body_end.Tie as tie
+use Rattle.frame.proofs.body_end.Statement.{statement}
+use Rattle.frame.proofs.body_end.Tie as tie
 
 pub body-end-spec : {M : Type 1} → statement M
 body-end-spec =

@@ -1,10 +1,10 @@
--- `convert::frame::store_frame` meets its contract. Assumes nothing.
+-- `frame::store_frame` meets its contract. Assumes nothing.
 use borrow.Author.Needs.{needs}
 use native.Mathlib.Omega.{arith}
 use lib.ListN.{length-set}
 use Rattle.word.proofs.Limits.{size-limits, key-limits}
-use Rattle.convert.proofs.frame.store_frame.Statement.{statement}
-use Rattle.convert.proofs.frame.store_frame.Tie as tie
+use Rattle.frame.proofs.store_frame.Statement.{statement}
+use Rattle.frame.proofs.store_frame.Tie as tie
 
 pub store-frame-spec : {M : Type 1} → statement M
 store-frame-spec =
