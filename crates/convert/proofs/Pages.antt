@@ -1,6 +1,6 @@
 -- The channels of a source, and the verdict on it in two parts. Assumes nothing.
 use Prim.Native.Nat.{ℕ, _-_, _*_}
-use mathlib.Core.Path.{_≡_, sym, ap, _∙_}
+use mathlib.Core.Path.{_≡_, sym, _∙_}
 use mathlib.Core.List.{List}
 use native.Mathlib.Omega.{arith}
 use borrow.Rule.Slice.PartMut.{putMid}
@@ -9,6 +9,7 @@ use Rattle.refusal.specs.declared.Refusal.{Refusal}
 use Rattle.refusal.specs.declared.Verdict.{Verdict}
 use Rattle.refusal.specs.declared.Verdict.the-variants.{Accepted, Refused}
 use Rattle.refusal.specs.Verdicts.{reportOf, andThen}
+use Rattle.refusal.proofs.Laws.{also-with}
 use Rattle.word.specs.declared.header.Header.{Header}
 use Rattle.word.specs.Words.{bodyWords, bodyStart, endIndex}
 use Rattle.number.specs.Channels.{channelIn}
@@ -41,18 +42,15 @@ module _ (f : Format) (h : Header) (xs t : List ℕ) where
   Result v u =
       (v ≡ checkSource f h xs (length t)) × ((reportOf v ≡ reportOf (checkSource f h xs (length t))) × (u ≡ after v (converted f h xs) t))
 
-  result : {v : Verdict} {u : List ℕ} → v ≡ checkSource f h xs (length t) → u ≡ after v (converted f h xs) t → Result v u
-  result e c = (e, (ap reportOf e, c))
-
   module _ {p : Verdict} (e : p ≡ checkFrame h (perPixel f) (length xs) (length t)) where
     pub page-refused : {r : Refusal} {i : ℕ} → p ≡ Refused r i → Result p t
     unfolding checkSource andThen
-    page-refused told = result (simp (sym e, told)) (simp told)
+    page-refused told = also-with reportOf (simp (sym e, told)) (simp told)
 
     module _ (ok : p ≡ Accepted) {v : Verdict} (g : v ≡ firstRefusal (decodedSource f xs)) where
       pub element-refused : {r : Refusal} {i : ℕ} → v ≡ Refused r i → Result v t
       unfolding checkSource andThen
-      element-refused told = result (simp (sym e, ok) g) (simp told)
+      element-refused told = also-with reportOf (simp (sym e, ok) g) (simp told)
 
       pub accepted : {start end : ℕ} {ws u : List ℕ} → v ≡ Accepted → start ≡ bodyStart h → end ≡ endIndex h
           → ws ≡ bodyWords 0 (channelsOf (decodedSource f xs)) → u ≡ withFrame h (putMid start (end - start) t ws)
@@ -61,4 +59,4 @@ module _ (f : Format) (h : Header) (xs t : List ℕ) where
       accepted told first last words stores =
           let q = page h _ _ _ (sym e ∙ ok) in
           let made = framed h (channelsOf (decodedSource f xs)) t (channel-count f _ xs (q .long)) (q .fits) in
-          result (simp (sym e, ok) (sym told ∙ g)) (stores ∙ rw (first, last, words) made)
+          also-with reportOf (simp (sym e, ok) (sym told ∙ g)) (stores ∙ rw (first, last, words) made)

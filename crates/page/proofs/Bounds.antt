@@ -1,6 +1,6 @@
 -- Demand 3 of a page, and the promises of the two calls. Assumes nothing.
 use Prim.Native.Nat.{ℕ, _<_}
-use mathlib.Core.Path.{_≡_, refl, sym, ap, subst, _∙_}
+use mathlib.Core.Path.{_≡_, refl, sym, subst, _∙_}
 use mathlib.Core.List.{List, [], _∷_, _++_, flatMap}
 use mathlib.Core.Logic.{inl, inr}
 use native.Mathlib.Omega.{arith}
@@ -13,6 +13,7 @@ use Rattle.refusal.specs.declared.Refusal.{Refusal}
 use Rattle.refusal.specs.declared.Verdict.{Verdict}
 use Rattle.refusal.specs.declared.Verdict.the-variants.{Accepted, Refused}
 use Rattle.refusal.specs.Verdicts.{reportOf}
+use Rattle.refusal.proofs.Laws.{also-with}
 use Rattle.strip.specs.Checks.{headerFields}
 use Rattle.refusal.specs.Output.{onto, after}
 use Rattle.strip.specs.Reading.{stripPixels}
@@ -108,7 +109,7 @@ tally-bound s = by (checkTally s) refl
 
 pub bounded : (s : List ℕ) {r : TallyOrRefusal} → r ≡ tallyStrip s
     → (r ≡ tallyStrip s) × ((tallyTold r ≡ tallyTold (tallyStrip s)) × TallyPromise s r)
-bounded s e = (e, (ap tallyTold e, subst (TallyPromise s) (sym e) (tally-bound s)))
+bounded s e = also-with tallyTold e (subst (TallyPromise s) (sym e) (tally-bound s))
 
 map-bound : (s output : List ℕ) → checkTally s ≡ Accepted → MapPromise s Accepted (onto (stripLevels s) output)
 map-bound s output e = where-lit s (tally-whole s e) _ (λ A q. level-half s (tally-whole s e) output q)
@@ -121,10 +122,10 @@ Mapped s old v new =
 
 pub left-alone : (s old : List ℕ) {v : Verdict} {r : Refusal} {i : ℕ} → v ≡ checkMap s (length old) → v ≡ Refused r i
     → Mapped s old v old
-left-alone s old e f = (e, (ap reportOf e, (rw f, rw f tt)))
+left-alone s old e f = also-with reportOf e (rw f, rw f tt)
 
 pub filled : (s old new : List ℕ) → Accepted ≡ checkMap s (length old) → new ≡ onto (stripLevels s) old → Mapped s old Accepted new
-filled s old new e f = (e, (ap reportOf e, (f, rw f (map-bound s old (map-tally s (length old) (sym e))))))
+filled s old new e f = also-with reportOf e (f, rw f (map-bound s old (map-tally s (length old) (sym e))))
 
 -- ---- both together
 

@@ -57,6 +57,10 @@ and-last (Refused r i) = refl
 pub also : {A B : Type 0} (f : A → B) {x y : A} → x ≡ y → (x ≡ y) × (f x ≡ f y)
 also f e = (e, ap f e)
 
+-- with what else a call promises
+pub also-with : {A B Rest : Type 0} (f : A → B) {x y : A} → x ≡ y → Rest → (x ≡ y) × ((f x ≡ f y) × Rest)
+also-with f e rest = (e, (ap f e, rest))
+
 -- no refusal has number 0
 pub numbered : (r : Refusal) (i : ℕ) → outcomeOf r i .number ≡ 0 → ⊥
 numbered BadSize i e = omega (arith, e)
