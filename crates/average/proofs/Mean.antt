@@ -7,7 +7,8 @@ use native.Mathlib.Omega.{arith}
 use lib.IntN.{ℤ, pos, subℕ, _+ℤ_, _-ℤ_, _*ℤ_}
 use lib.ListN.{length}
 use lib.Pow.{pow-add, pow-pos}
-use Rattle.number.proofs.Laws.{Every, every-map, Frac, AtMost, Below, IsMantissa, unit-power, power, twoToThe, sub-minus, sub-plus, sub-times, power-at-most, below-power}
+use Rattle.number.proofs.Laws.{Every, every-map, Frac, AtMost, Below, IsMantissa, unit-power, power, twoToThe}
+use Rattle.number.proofs.Laws.{sub-minus, sub-plus, sub-times, power-at-most, below-power}
 use Rattle.number.specs.declared.ratio.Stored.{Stored}
 use Rattle.average.specs.Averages.{floorDiv}
 use Rattle.average.specs.Claims.{productOfWorths, MeanWithin, MeanBound, MeanIsBounded}

@@ -24,6 +24,13 @@ module _ (F : Frac) (i j : ℕ) where
   less-128 : exponentAt i j -ℤ pos 128 ≡ subℕ j i
   less-128 = sub-minus (128 + j) i 128 ∙ same-difference (128 + j) (i + 128) j i (omega arith)
 
+  exponent-scales : IsExponent F (exponentAt i j) → Scales F i j (eightDigits (F .num * 2 ^ i) (F .den * 2 ^ j))
+  exponent-scales e =
+      let low = power-below F j (suc i) .1 (subst (λ z. Below (twoToThe z) F) less-129 (e .above)) in
+      let high = at-most-power F j i .1 (subst (λ z. AtMost F (twoToThe z)) less-128 (e .within)) in
+      let halves = rw (pow-succ' 2 i) at low in
+      record { normalised = record { above-half = omega arith; at-most-one = omega arith; digits = refl } }
+
   scaled-exponent : {M : ℕ} → Scales F i j M → IsExponent F (exponentAt i j)
   scaled-exponent s =
       record {
@@ -32,13 +39,6 @@ module _ (F : Frac) (i j : ℕ) where
         within = subst (λ z. AtMost F (twoToThe z)) (sym less-128)
             (at-most-power F j i .0 (omega (arith, s .normalised .at-most-one)));
       }
-
-  exponent-scales : IsExponent F (exponentAt i j) → Scales F i j (eightDigits (F .num * 2 ^ i) (F .den * 2 ^ j))
-  exponent-scales e =
-      let low = power-below F j (suc i) .1 (subst (λ z. Below (twoToThe z) F) less-129 (e .above)) in
-      let high = at-most-power F j i .1 (subst (λ z. AtMost F (twoToThe z)) less-128 (e .within)) in
-      let halves = rw (pow-succ' 2 i) at low in
-      record { normalised = record { above-half = omega arith; at-most-one = omega arith; digits = refl } }
 
 -- every whole number is such an E
 some-powers : (E : ℤ) → (i : ℕ) × (j : ℕ) × (exponentAt i j ≡ E)

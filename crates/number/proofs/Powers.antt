@@ -20,9 +20,9 @@ power-is =
     more : (a d : ℕ) → 2 ^ (suc a + d) ≡ 2 ^ a * 2 ^ suc d
     more a d = ap (λ (z : ℕ). 2 ^ z) (omega arith) ∙ pow-add 2 a (suc d)
 
-denominator-pos : (z : ℤ) → 0 < twoToThe z .den
-denominator-pos (pos n) = lit< tt
-denominator-pos (negsuc n) = pow-pos (suc n)
+power-den-pos : (z : ℤ) → 0 < twoToThe z .den
+power-den-pos (pos n) = lit< tt
+power-den-pos (negsuc n) = pow-pos (suc n)
 
 -- where a / b and p / q are one number, they lie alike against n / d
 module _ (a b p q : ℕ) (e : a * q ≡ p * b) (b>0 : 0 < b) (q>0 : 0 < q) (n d : ℕ) where
@@ -41,15 +41,18 @@ module _ (a b p q : ℕ) (e : a * q ≡ p * b) (b>0 : 0 < b) (q>0 : 0 < q) (n d 
     λ h. lt-of-mul-lt-mul-left q (omega (arith, scaled, mul-lt-mul-of-pos-right h b>0)),
   )
 
-not-less : {a b c d : ℕ} → ((a < b) → (c < d)) → d ≤ c → b ≤ a
+not-less : {a b c d : ℕ} → (a < b → c < d) → d ≤ c → b ≤ a
 not-less f h = le-of-suc-le-suc (lt-of-not-le (λ g. not-le-of-lt (f g) h))
 
 module _ (x : Frac) (i j : ℕ) where
-  under : (2 ^ i * x .den < 2 ^ j * x .num) ↔ (twoToThe (subℕ i j) .num * x .den < x .num * twoToThe (subℕ i j) .den)
-  under = less (2 ^ i) (2 ^ j) (twoToThe (subℕ i j) .num) (twoToThe (subℕ i j) .den) (power-is i j .cross) (pow-pos j) (denominator-pos (subℕ i j)) (x .num) (x .den)
+  abbrev y : Frac
+  y = twoToThe (subℕ i j)
 
-  beyond : (2 ^ j * x .num < 2 ^ i * x .den) ↔ (x .num * twoToThe (subℕ i j) .den < twoToThe (subℕ i j) .num * x .den)
-  beyond = greater (2 ^ i) (2 ^ j) (twoToThe (subℕ i j) .num) (twoToThe (subℕ i j) .den) (power-is i j .cross) (pow-pos j) (denominator-pos (subℕ i j)) (x .num) (x .den)
+  under : (2 ^ i * x .den < 2 ^ j * x .num) ↔ (y .num * x .den < x .num * y .den)
+  under = less (2 ^ i) (2 ^ j) (y .num) (y .den) (power-is i j .cross) (pow-pos j) (power-den-pos (subℕ i j)) (x .num) (x .den)
+
+  beyond : (2 ^ j * x .num < 2 ^ i * x .den) ↔ (x .num * y .den < y .num * x .den)
+  beyond = greater (2 ^ i) (2 ^ j) (y .num) (y .den) (power-is i j .cross) (pow-pos j) (power-den-pos (subℕ i j)) (x .num) (x .den)
 
   pub power-below : (2 ^ i * x .den < 2 ^ j * x .num) ↔ Below (twoToThe (subℕ i j)) x
   power-below = (λ h. record { cross = under .0 h }, λ h. under .1 (h .cross))
