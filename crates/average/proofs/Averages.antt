@@ -8,14 +8,13 @@ use lib.Dec.{eqb, le→leb, lit<}
 use lib.IntN.{ℤ, pos, subℕ, natAbs, _+ℤ_}
 use lib.Signed.{_≤ℤ_, leZ-yes}
 use borrow.Author.Tests.{eqb-true, eqb-false}
-use Rattle.number.proofs.Laws.{same-difference}
+use Rattle.number.proofs.Laws.{same-difference, sub-pos, sub-plus, sub-least, sub-most, lowered}
 use Rattle.number.specs.declared.ratio.Stored.{Stored}
 use Rattle.average.specs.Averages.{floorDiv, floorMod, storedAverage, averageOf, IsAverage, IsStoredAverage}
 use Rattle.average.specs.loops.Sums.{IsSum, HasAverage}
 use Rattle.average.specs.declared.average.Average.the-variants.{Absent, Present}
 use Rattle.average.specs.Tables.{rootOf}
 use Rattle.average.specs.Claims.{AveragesInRange}
-use Rattle.average.proofs.Differences.{sub-pos, sub-plus, sub-least, sub-most, lowered}
 use Rattle.average.proofs.Division.{floor-sub, mod-sub}
 use Rattle.average.proofs.Rules.{root-mantissa}
 use Rattle.average.proofs.Sums.{InSteps, sum-lowered, tally-is-sum}

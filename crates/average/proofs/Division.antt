@@ -6,9 +6,9 @@ use native.Mathlib.Nat.{mod-lt, div-add-mod'}
 use native.Mathlib.Omega.{arith}
 use lib.Arith.{digits-div, digits-mod}
 use lib.IntN.{ℤ, pos, negsuc, subℕ, _+ℤ_, _*ℤ_, pos-*ℤ-pos}
+use Rattle.number.proofs.Laws.{sub-pos, sub-neg, sub-cases, sub-plus, sub-times}
 use Rattle.average.specs.Averages.{floorDiv, floorMod}
 use Rattle.average.specs.Claims.{FloorDivides}
-use Rattle.average.proofs.Differences.{sub-pos, sub-neg, sub-cases, sub-plus, sub-times}
 
 module _ (n r : ℕ) (small : r < n) where
   rest : n - suc r < n

@@ -4,8 +4,7 @@ pub mod Laws
 pub mod Greatest
 pub mod Rules
 pub mod Entries
--- differences of whole numbers, and signed numbers of 64 bits
-pub mod Differences
+-- signed numbers of 64 bits, and their division
 pub mod Signed
 pub mod Division
 -- sums and averages
@@ -13,5 +12,4 @@ pub mod Spread
 pub mod Sums
 pub mod Averages
 -- the first half of demand 3
-pub mod Powers
 pub mod Mean

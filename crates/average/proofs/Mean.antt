@@ -7,17 +7,16 @@ use native.Mathlib.Omega.{arith}
 use lib.IntN.{ℤ, pos, subℕ, _+ℤ_, _-ℤ_, _*ℤ_}
 use lib.ListN.{length}
 use lib.Pow.{pow-add, pow-pos}
-use Rattle.number.proofs.Laws.{Every, every-map, Frac, AtMost, Below, IsMantissa, unit-power, power}
+use Rattle.number.proofs.Laws.{Every, every-map, Frac, AtMost, Below, IsMantissa, unit-power, power, twoToThe}
+use Rattle.number.proofs.Laws.{sub-minus, sub-plus, sub-times, power-at-most, below-power}
 use Rattle.number.specs.declared.ratio.Stored.{Stored}
 use Rattle.average.specs.Averages.{floorDiv}
-use Rattle.average.specs.Claims.{productOfWorths, twoToThe, MeanWithin, MeanBound, MeanIsBounded}
+use Rattle.average.specs.Claims.{productOfWorths, MeanWithin, MeanBound, MeanIsBounded}
 use Rattle.luminance.specs.Pixels.{IsLuminance}
 use Rattle.average.specs.Tables.{logOf}
 use Rattle.average.specs.Tallies.{sumOf}
 use Rattle.average.proofs.Averages.{reported}
-use Rattle.average.proofs.Differences.{sub-minus, sub-plus, sub-times}
 use Rattle.average.proofs.Division.{floor-sub}
-use Rattle.average.proofs.Powers.{power-at-most, below-power}
 use Rattle.average.proofs.Rules.{log-below, log-above}
 use Rattle.average.proofs.Spread.{mul-pow, pow-mul, total, productOf, mean-low, mean-high}
 use Rattle.average.proofs.Sums.{raisedSteps, sum-is}
@@ -69,10 +68,10 @@ module _ (s l : ℕ) (rounded : (M : ℕ) → IsMantissa M → Rounded s l M) wh
         record {
           low = subst (λ z. AtMost (twoToThe z) P)
               (sym (scaled (λ z. z -ℤ pos below) (q * s) (34816 * s + below) (sub-minus (q * s) (34816 * s) below)))
-              (power-at-most P (q * s * N) ((34816 * s + below) * N) low);
+              (power-at-most P (q * s * N) ((34816 * s + below) * N) .0 low);
           high = subst (λ z. Below P (twoToThe z))
               (sym (scaled (λ z. z +ℤ pos above) (q * s + above) (34816 * s) (sub-plus (q * s) (34816 * s) above)))
-              (below-power P ((q * s + above) * N) (34816 * s * N) high);
+              (below-power P ((q * s + above) * N) (34816 * s * N) .0 high);
         }
       where
         N : ℕ

@@ -11,7 +11,7 @@ use borrow.Author.Tests.{ltb-true}
 use mir.Syntax.{w64}
 use mir.Val.{Fits, SFits, toZ, ofZ}
 use mir.Facts.{toZ-ofZ, fits-natAbs}
-use Rattle.average.proofs.Differences.{sub-pos, sub-neg, sub-cases}
+use Rattle.number.proofs.Laws.{sub-pos, sub-neg, sub-cases}
 
 -- −1 − z
 pub complement-pos : (a : ℕ) → negsuc 0 -ℤ pos a ≡ negsuc a

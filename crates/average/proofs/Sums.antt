@@ -11,14 +11,13 @@ use lib.ListN.{length, length-append}
 use lib.Signed.{_≤ℤ_, leZ-yes}
 use mir.Syntax.{w64}
 use mir.Val.{SFits}
-use Rattle.number.proofs.Laws.{Every}
+use Rattle.number.proofs.Laws.{Every, sub-add, sub-least, sub-most, Lowered, lowered}
 use Rattle.number.specs.declared.ratio.Stored.{Stored}
 use Rattle.average.specs.Averages.{stepsOf}
 use Rattle.average.specs.loops.Sums.{IsSum, withLuminance}
 use Rattle.luminance.specs.Pixels.{IsLuminance}
 use Rattle.average.specs.Tables.{logTest, logOf}
 use Rattle.average.specs.Tallies.{sumOf, tallyOf, join}
-use Rattle.average.proofs.Differences.{sub-add, sub-least, sub-most, Lowered, lowered}
 use Rattle.average.proofs.Rules.{log-le, log-from}
 use Rattle.average.proofs.Signed.{sub-fits}
 use Rattle.average.proofs.Spread.{total}

@@ -3,11 +3,11 @@
 -- (proofs/Averages.antt) and `mean-bound` (proofs/Mean.antt).
 use mathlib.Core.Path.{_≡_}
 use mathlib.Core.List.{List, [], _∷_}
-use Prim.Native.Nat.{ℕ, suc, _+_, _*_, _^_, _≤_, _<_}
-use lib.IntN.{ℤ, pos, negsuc, negℤ, _+ℤ_, _-ℤ_, _*ℤ_}
+use Prim.Native.Nat.{ℕ, _+_, _*_, _^_, _≤_, _<_}
+use lib.IntN.{ℤ, pos, negℤ, _+ℤ_, _-ℤ_, _*ℤ_}
 use lib.ListN.{length}
 use lib.Signed.{_≤ℤ_}
-use Rattle.number.proofs.Laws.{Every, Frac, _over_, _·_, power, twoTo, twoToMinus, AtMost, Below, storedWorth}
+use Rattle.number.proofs.Laws.{Every, Frac, _over_, _·_, power, twoToThe, AtMost, Below, storedWorth}
 use Rattle.number.specs.declared.ratio.Stored.{Stored}
 use Rattle.luminance.specs.Pixels.{IsLuminance}
 use Rattle.average.specs.Tallies.{sumOf}
@@ -58,11 +58,6 @@ AveragesInRange = (ys : List Stored) → Every IsLuminance ys → length ys ≤ 
 abbrev pub productOfWorths : List Stored → Frac
 productOfWorths [] = 1 over 1
 productOfWorths (y ∷ ys) = storedWorth y · productOfWorths ys
-
--- 2^z: a negative power is moved across the fraction line
-abbrev pub twoToThe : ℤ → Frac
-twoToThe (pos n) = twoTo n
-twoToThe (negsuc n) = twoToMinus (suc n)
 
 -- The logarithm of the mean of N luminances is counted in parts of a step, of which s make one. It lies at most `below` parts below
 -- s·A and less than `above` parts above: 2^((s·A − below)·N) ≤ P^(256·s) < 2^((s·A + above)·N).

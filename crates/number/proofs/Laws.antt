@@ -5,16 +5,22 @@
 -- lists; fractions; the rule of storing, worths in units of 2^-137, and what is stored; channels and their worths
 pub use Rattle.number.specs.Lists.{Every}
 pub use Rattle.number.proofs.Lists.{every-map, every-take, Filled, filled-none, filled-next}
-pub use Rattle.number.specs.Fractions.{Frac, _over_, _·_, _÷_, _times_, power, twoToMinus, twoTo, Positive, Equal, AtMost, Below}
+pub use Rattle.number.specs.Fractions.{Frac, _over_, _·_, _÷_, _times_, power, twoToMinus, twoTo, twoToThe}
+pub use Rattle.number.specs.Fractions.{Positive, Equal, AtMost, Below}
 pub use Rattle.number.specs.Storing.{Normalised, Scales, IsMantissa, Stores, unit, worth, storedWorth, storedOf, ratioOf}
 pub use Rattle.number.specs.Channels.{IsLit, IsChannel, worthOf, codeOf, codeChannel, Coded, IsCode}
 -- the claims: one exponent and mantissa, which `exponentOf` and `mantissaOf` are; what storing promises; where lit channels lie
 pub use Rattle.number.specs.Claims.{Near, Promised}
-pub use Rattle.number.proofs.Storing.{one-exponent, stores-by-rule}
+pub use Rattle.number.proofs.Exponents.{one-exponent}
+pub use Rattle.number.proofs.Storing.{stores-by-rule}
 pub use Rattle.number.proofs.Scaling.{promised}
 pub use Rattle.number.proofs.Sources.{lit-in-range}
--- an exponent is a difference; a mantissa is one
-pub use Rattle.number.proofs.Scaling.{same-difference, is-mantissa}
+-- differences of natural numbers, which signed numbers are; 2 to the power of one against a fraction
+pub use Rattle.number.proofs.Differences.{same-difference, sub-pos, sub-neg, sub-cases, sub-add, sub-plus, sub-minus, sub-times}
+pub use Rattle.number.proofs.Differences.{sub-most, sub-least, Lowered, lowered}
+pub use Rattle.number.proofs.Powers.{power-at-most, below-power}
+-- a mantissa is one
+pub use Rattle.number.proofs.Scaling.{is-mantissa}
 -- equal fractions are stored alike; only the difference of the powers counts, which go into a fraction and out of it
 pub use Rattle.number.proofs.Scaling.{denominator-pos, scales-equal, rescale, powers-into, whole-powers-into, powers-out}
 -- a factor 2^k moves only the exponent; storing is monotone in the worth; a stored worth is stored as itself

@@ -1,9 +1,12 @@
 pub mod Laws
 pub mod Lists
+pub mod Differences
+pub mod Powers
 pub mod Normalised
 pub mod Scaling
 pub mod Ranges
 pub mod Storing
+pub mod Exponents
 pub mod Sticky
 pub mod Shifts
 pub mod Channels

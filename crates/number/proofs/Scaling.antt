@@ -22,14 +22,12 @@ use native.Mathlib.Nat.{
   not-le-of-lt,
   pow-succ',
 }
-use native.Mathlib.Decide.{decLe}
 use native.Mathlib.Omega.{arith}
-use borrow.Author.Tests.{le-ltb, lt-ltb}
-use lib.IntN.{pos, negsuc, subℕ}
 use lib.Pow.{pow-pos, pow-mono, pow-add}
 use Rattle.number.specs.Fractions.{Frac, _over_, twoToMinus, twoTo, Equal, AtMost, Below}
 use Rattle.number.specs.Storing.{exponentAt, Normalised, Scales, scaledWorth, IsMantissa}
 use Rattle.number.specs.Claims.{Near, StoredIsNear}
+use Rattle.number.proofs.Differences.{same-difference}
 use Rattle.number.proofs.Normalised.{divisor-pos, mantissa, floor, ceiling, ratio, mantissa-mono}
 
 -- a factor of a positive product
@@ -179,13 +177,6 @@ module _ {F G : Frac} {i j M j′ M′ : ℕ} (s : Scales F i j M) (t : Scales G
 
       higher : j < j′ → (2 * M + 1) * 2 ^ j ≤ (2 * M′ + 1) * 2 ^ j′
       higher l = le-of-lt (steep j j′ M M′ (mantissa (s .normalised)) (mantissa (t .normalised)) l)
-
-pub same-difference : (a b c d : ℕ) → a + d ≡ c + b → subℕ a b ≡ subℕ c d
-same-difference a b c d e = go (decLe b a)
-  where
-    go : Dec (b ≤ a) → subℕ a b ≡ subℕ c d
-    go (yes h) = rw (le-ltb a b h, le-ltb c d (omega arith)) (ap pos (omega arith))
-    go (no h) = rw (lt-ltb a b (omega arith), lt-ltb c d (omega arith)) (ap negsuc (omega arith))
 
 -- equal numbers have one exponent and one mantissa
 module _ {F G : Frac} {i j M i′ j′ M′ : ℕ} (s : Scales F i j M) (t : Scales G i′ j′ M′) (e : Equal F G) where

@@ -23,13 +23,13 @@ use native.Mathlib.Nat.{
 }
 use native.Mathlib.Decide.{decLe}
 use native.Mathlib.Omega.{arith}
-use lib.Dec.{T, leb, ltb, leb→le, ltb→lt, lit<, lit≤}
+use lib.Dec.{T, leb, ltb, leb→le, ltb→lt, lit<}
 use borrow.Author.Tests.{le-ltb}
 use lib.IntN.{pos}
 use lib.Ieee.{size}
 use lib.Ieee.Digits.{size-lt, size-reaches}
 use lib.Pow.{pow-pos, pow-mono}
-use Rattle.number.specs.Fractions.{Frac, _over_, twoToMinus, twoTo, Positive, Equal, AtMost, Below}
+use Rattle.number.specs.Fractions.{Frac, _over_, twoToMinus, twoTo, Equal, AtMost, Below}
 use Rattle.number.specs.Storing.{
   exponentAt,
   Scales,
@@ -43,15 +43,13 @@ use Rattle.number.specs.Storing.{
   storedOf,
   ratioOf,
 }
-use Rattle.number.specs.Claims.{Near, OneExponent, StoresByRule}
+use Rattle.number.specs.Claims.{Near, StoresByRule}
 use Rattle.number.specs.declared.ratio.StoredRatio.the-variants.{InRange, OutOfRange}
 use Rattle.number.proofs.Scaling.{
   denominator-pos,
   scales-equal,
-  powers-out,
   steep,
   unique-powers,
-  unique-exponent,
   unique-mantissa,
   worth-mono,
   is-mantissa,
@@ -155,29 +153,6 @@ stored-as {F} {G} {E} {M} s e p =
 
     u : Stores G (exponentOf G) (mantissaOf G)
     u = stores-by-rule G p (record { cross = halve (2 ^ 128) (2 ^ E) (pow-pos E) (t .normalised .above-half) })
-
--- every positive number can be scaled, however small: F · 2^k is above 1 where 2^k is above the denominator
-scales-exist : (F : Frac) → Positive F → (i : ℕ) × (j : ℕ) × (M : ℕ) × Scales F i j M
-scales-exist F p = (k + 128, 0 + exponentOf G, mantissaOf G, powers-out (F .num) (F .den) k 0 (stored G 0 (lit≤ tt) den-pos above))
-  where
-    k : ℕ
-    k = size (F .den)
-
-    G : Frac
-    G = F .num * 2 ^ k over F .den * 2 ^ 0
-
-    den-pos : 0 < G .den
-    den-pos = omega (arith, p .denominator)
-
-    above : Below (twoToMinus 0) G
-    above = record { cross = omega (arith, size-lt (F .den), mul-le-mul-right (2 ^ k) (p .numerator)) }
-
-pub one-exponent : OneExponent
-one-exponent F p =
-    record { exists = scales-exist F p; only = λ s t. (unique-exponent s t itself, unique-mantissa s t itself) }
-  where
-    itself : Equal F F
-    itself = record { cross = refl }
 
 -- ---- storing where the exponent fits eight bits
 

@@ -1,8 +1,10 @@
 -- What storing promises of every rational, and where lit channels lie: claims about the definitions that contracts cite. Assumes nothing.
--- Proved as `one-exponent`, `stores-by-rule` (proofs/Storing.antt), `promised` (proofs/Scaling.antt), `lit-in-range` (proofs/Sources.antt).
+-- Proved as `one-exponent` (proofs/Exponents.antt), `stores-by-rule` (proofs/Storing.antt), `promised` (proofs/Scaling.antt) and
+-- `lit-in-range` (proofs/Sources.antt).
 use mathlib.Core.Path.{_≡_}
 use Prim.Native.Nat.{ℕ, _*_, _≤_, _<_}
-use Rattle.number.specs.Fractions.{Frac, twoToMinus, Positive, Below}
+use lib.IntN.{ℤ, pos, _-ℤ_}
+use Rattle.number.specs.Fractions.{Frac, twoToMinus, twoToThe, Positive, AtMost, Below}
 use Rattle.number.specs.Storing.{exponentAt, Scales, scaledWorth, Stores, exponentOf, mantissaOf}
 use Rattle.number.specs.Channels.{channelOf, channelOfCode}
 use Rattle.number.specs.Sources.{channelOfValue, halfValue, singleValue, rgbeValue}
@@ -12,10 +14,18 @@ use Rattle.number.specs.declared.channel.Decoded.the-variants.{Holds}
 
 -- ---- "E is the only whole number with 2^(E−129) < F ≤ 2^(E−128)"
 
--- F has an exponent and a mantissa by the rule, and it has no others
+pub record IsExponent (F : Frac) (E : ℤ) : Type 0 where
+  pub above : Below (twoToThe (E -ℤ pos 129)) F
+  pub within : AtMost F (twoToThe (E -ℤ pos 128))
+
+-- F has an exponent and has no other. `Scales`, by which the contracts are proved, gives F that exponent and one mantissa, and no others.
 pub record HasOneExponent (F : Frac) : Type 0 where
-  pub exists : (i : ℕ) × (j : ℕ) × (M : ℕ) × Scales F i j M
-  pub only : {i j M i′ j′ M′ : ℕ} → Scales F i j M → Scales F i′ j′ M′ → (exponentAt i j ≡ exponentAt i′ j′) × (M ≡ M′)
+  pub E : ℤ
+  pub M : ℕ
+  pub is : IsExponent F E
+  pub only : (E′ : ℤ) → IsExponent F E′ → E′ ≡ E
+  pub scales : (i : ℕ) × (j : ℕ) × Scales F i j M
+  pub only-scales : (i j M′ : ℕ) → Scales F i j M′ → (exponentAt i j ≡ E) × (M′ ≡ M)
 
 abbrev pub OneExponent : Type 0
 OneExponent = (F : Frac) → Positive F → HasOneExponent F

@@ -2,8 +2,9 @@
 -- Assumes nothing.
 use mathlib.Core.Path.{_≡_}
 use mathlib.Core.Bool.{Bool, cond}
-use Prim.Native.Nat.{ℕ, _*_, _^_, _≤_, _<_}
+use Prim.Native.Nat.{ℕ, suc, _*_, _^_, _≤_, _<_}
 use lib.Dec.{leb}
+use lib.IntN.{ℤ, pos, negsuc}
 
 pub record Frac : Type 0 where
   pub num : ℕ
@@ -35,6 +36,11 @@ twoToMinus k = 1 over 2 ^ k
 
 abbrev pub twoTo : ℕ → Frac
 twoTo k = 2 ^ k over 1
+
+-- 2^z: a negative power is moved across the fraction line
+abbrev pub twoToThe : ℤ → Frac
+twoToThe (pos n) = twoTo n
+twoToThe (negsuc n) = twoToMinus (suc n)
 
 pub record Positive (x : Frac) : Type 0 where
   pub numerator : 0 < x .num

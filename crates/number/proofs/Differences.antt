@@ -8,7 +8,6 @@ use lib.Dec.{le→leb, leb→le}
 use lib.IntN.{ℤ, pos, negsuc, negℤ, subℕ, _+ℤ_, _-ℤ_, _*ℤ_, +ℤ-assoc, +ℤ-comm, +ℤ-idl, negℤ-+ℤ, pos-*ℤ-pos, negsuc-*ℤ-pos}
 use lib.Signed.{_≤ℤ_, leZ-yes}
 use borrow.Author.Tests.{lt-ltb, le-ltb}
-use Rattle.number.proofs.Laws.{same-difference}
 
 -- by what it comes to
 pub sub-pos : (a b d : ℕ) → a ≡ b + d → subℕ a b ≡ pos d
@@ -16,6 +15,14 @@ sub-pos a b d e = rw (le-ltb a b (omega arith)) (ap pos (omega arith))
 
 pub sub-neg : (a b d : ℕ) → b ≡ suc a + d → subℕ a b ≡ negsuc d
 sub-neg a b d e = rw (lt-ltb a b (omega arith)) (ap negsuc (omega arith))
+
+-- written otherwise
+pub same-difference : (a b c d : ℕ) → a + d ≡ c + b → subℕ a b ≡ subℕ c d
+same-difference a b c d e = go (decLe b a)
+  where
+    go : Dec (b ≤ a) → subℕ a b ≡ subℕ c d
+    go (yes h) = rw (le-ltb a b h, le-ltb c d (omega arith)) (ap pos (omega arith))
+    go (no h) = rw (lt-ltb a b (omega arith), lt-ltb c d (omega arith)) (ap negsuc (omega arith))
 
 -- by its sign
 pub sub-cases : (P : ℕ → ℕ → Type 0) → ((b d : ℕ) → P (b + d) b) → ((a d : ℕ) → P a (suc a + d)) → (a b : ℕ) → P a b
