@@ -1,6 +1,5 @@
 -- Stored numbers for the crates above: what storing is, and its laws, each once and for any rational. The tone steps cite this module and
--- nothing beneath it.
--- Assumes nothing.
+-- the types that the code declares, and nothing beneath. Assumes nothing.
 
 -- lists; fractions; the rule of storing, worths in units of 2^-137, and what is stored; channels and their worths
 pub use Rattle.number.specs.Lists.{Every}

@@ -16,7 +16,7 @@ use Rattle.number.specs.declared.ratio.StoredRatio.the-variants.{InRange
 abbrev pub exponentAt : (i j : ℕ) → ℤ
 exponentAt i j = subℕ (128 + j) i
 
--- the first eight binary digits of x / u: 256 · x / u "rounded down, and 255 where that gives 256"
+-- the first eight binary digits of an x / u above 1/2 and at most 1: 256 · x / u "rounded down, and 255 where that gives 256"
 abbrev pub eightDigits : (x u : ℕ) → ℕ
 eightDigits x u = min 255 (256 * x / u)
 

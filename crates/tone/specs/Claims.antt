@@ -56,7 +56,8 @@ abbrev pub atMost255 : Frac → Frac
 atMost255 x = min (x .num) (255 * x .den) over x .den
 
 -- "Y is (27R + 67G + 6B)/100, not stored; a is the worth of the page's stored average, step 3; L is K·Y/(1000·a). The exact value of
--- a channel C, any of the three, is 255 · L/(1+L) · C/Y, or 255 where that is greater; nothing in it is rounded."
+-- a channel C, any of the three, is 255 · L/(1+L) · C/Y, or 255 where that is greater; nothing in it is rounded." So with `reinhard` for
+-- the curve.
 abbrev pub exactValue : (curve : Frac → Frac) (t : Tone) (Y C : Frac) → Frac
 exactValue curve t Y C = atMost255 (255 times curve (keyOverAverage t · Y) · C ÷ Y)
 

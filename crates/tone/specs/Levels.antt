@@ -28,7 +28,7 @@ scaledOf t y = storedOf (keyOverAverage t · storedWorth y)
 abbrev pub reinhard : Frac → Frac
 reinhard L = L .num over L .den + L .num
 
--- "Display luminance: L/(1+L) over the decoded L, stored"; `curve` is L/(1+L) as a function of L
+-- "Display luminance: L/(1+L) over the decoded L, stored": so with `reinhard` for the curve, which is a parameter
 abbrev pub displayOf : (curve : Frac → Frac) → Stored → Stored
 displayOf curve l = storedOf (curve (storedWorth l))
 
