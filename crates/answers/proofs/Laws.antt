@@ -1,6 +1,7 @@
 -- For the crates above: an answer in numbers keeps what the call beneath promises. Assumes nothing.
 use Prim.Native.Nat.{ℕ}
-use mathlib.Core.Path.{_≡_, sym, ap, subst, _∙_}
+use mathlib.Core.Path.{_≡_, refl, sym, ap, subst, _∙_}
+use mathlib.Core.Logic.{inl, inr}
 use mathlib.Core.List.{List}
 use native.Mathlib.Omega.{arith}
 use Rattle.refusal.proofs.Laws.{numbered}
@@ -25,12 +26,13 @@ reported {front} {old} t v c = record { outcome = t ∙ ap reportOf v; content =
 
 -- a tally's promise
 bounded : (s : List ℕ) (a : TallyOrRefusal) → TallyPromise s a → TallyBound s (tallyAnswer a)
-bounded s (Holds t Absent) p = record { count = λ _. p .0; absent = λ _ _. p .1; mean = λ e. absurd (omega (arith, e)) }
+bounded s (Holds t Absent) p = record { count = λ _. p .0; flag = inl refl; absent = λ _ _. p .1; mean = λ e. absurd (omega (arith, e)) }
 bounded s (Holds t (Present A stored)) p =
-    record { count = λ _. p .0; absent = λ _ e. absurd (omega (arith, e)); mean = λ _. p .1 }
+    record { count = λ _. p .0; flag = inr refl; absent = λ _ e. absurd (omega (arith, e)); mean = λ _. p .1 }
 bounded s (Refuses r i) p =
     record {
       count = λ e. absurd (numbered r i e);
+      flag = inl refl;
       absent = λ e _. absurd (numbered r i e);
       mean = λ e. absurd (omega (arith, e));
     }

@@ -123,5 +123,4 @@ averages-in-range ys h few A average e =
     let s = tally-is-sum ys h few in
     let r = reported _ _ e in
     let steps : IsAverage A = subst IsAverage (r .steps) (average-in-range (r .lit) s) in
-    let stored = reported-range _ _ s e in
-    record { least = steps .least; most = steps .most; stored-least = stored .least; stored-most = stored .most }
+    record { least = steps .least; most = steps .most; stored = reported-range _ _ s e }

@@ -52,7 +52,7 @@ pub record IsAverage (A : ℤ) : Type 0 where
   pub least : negℤ (pos 15630) ≤ℤ A
   pub most : A ≤ℤ pos 14335
 
--- a stored average as step 3 gives it
+-- where stored averages lie
 pub record IsStoredAverage (a : Stored) : Type 0 where
   pub least : 67 ≤ a .exponent
   pub most : a .exponent ≤ 184

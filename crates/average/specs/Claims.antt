@@ -12,7 +12,7 @@ use Rattle.number.specs.declared.ratio.Stored.{Stored}
 use Rattle.luminance.specs.Pixels.{IsLuminance}
 use Rattle.average.specs.Tallies.{sumOf}
 use Rattle.average.specs.Tables.{logOf, rootOf}
-use Rattle.average.specs.Averages.{floorDiv, floorMod, averageOf}
+use Rattle.average.specs.Averages.{floorDiv, floorMod, averageOf, IsStoredAverage}
 use Rattle.average.specs.declared.average.Average.the-variants.{Present}
 
 -- ---- steps 2 and 3
@@ -40,12 +40,11 @@ pub record Divided (z : ℤ) (n : ℕ) : Type 0 where
 abbrev pub FloorDivides : Type 0
 FloorDivides = (z : ℤ) (n : ℕ) → 0 < n → Divided z n
 
--- where an average lies, in steps and stored: q + 128 and q + 129 are exponents
+-- where an average lies, in steps and, as the steps that follow ask it, stored: q + 128 and q + 129 are exponents
 pub record AverageRange (A : ℤ) (average : Stored) : Type 0 where
   pub least : negℤ (pos 15630) ≤ℤ A
   pub most : A ≤ℤ pos 14335
-  pub stored-least : 67 ≤ average .exponent
-  pub stored-most : average .exponent ≤ 184
+  pub stored : IsStoredAverage average
 
 -- for every list of luminances, up to many more than a page has, and the average that its tally reports
 abbrev pub AveragesInRange : Type 0

@@ -9,6 +9,8 @@ use Rattle.number.specs.Sources.{channelOfValue, fieldValue, rgbeValue}
 use Rattle.refusal.specs.Verdicts.{require, andThen}
 use Rattle.word.specs.Words.{sizeFits, keyFits}
 use Rattle.word.specs.Fields.{checkSizeWord, checkKeyWord, decodeWord}
+use Rattle.frame.specs.Frames.{checkFrame}
+use Rattle.convert.specs.Converting.{checkSource}
 use Rattle.strip.specs.Checks.{checkHead, checkBody, checkWith, checkStrip, checkOutput}
 use Rattle.luminance.specs.Pixels.{luminanceOf}
 use Rattle.average.specs.Tables.{greatest, logTest, logOf, rootTest, rootOf}
@@ -18,11 +20,14 @@ use Rattle.tone.specs.Levels.{levelOf}
 use Rattle.body.specs.Luminances.{luminancesOf}
 use Rattle.page.specs.Checks.{checkTally, checkMap}
 use Rattle.page.specs.Tallying.{tallyStrip}
+use Rattle.ppm.specs.Text.{decimal, twoNumbers}
+use Rattle.ppm.specs.Words.{checkCount}
+use Rattle.ppm.specs.Answers.{checkInput, printedFor}
 use Rattle.examples.specs.Examples.{TableHolds}
 
 pub table-holds : TableHolds
 unfolding size byRange unit exponentOf mantissaOf channelOf channelOfCode channelOfValue fieldValue rgbeValue
-    require andThen sizeFits keyFits checkSizeWord checkKeyWord decodeWord checkHead checkBody checkWith checkStrip checkOutput
+    require andThen sizeFits keyFits checkFrame checkSource checkSizeWord checkKeyWord decodeWord checkHead checkBody checkWith checkStrip checkOutput
     luminanceOf greatest logTest logOf rootTest rootOf storedAverage averageOf sumOf levelOf flatMap luminancesOf
-    checkTally checkMap tallyStrip
+    checkTally checkMap tallyStrip decimal twoNumbers checkCount checkInput printedFor
 table-holds = refl

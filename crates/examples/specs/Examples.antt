@@ -10,10 +10,12 @@ use Rattle.number.specs.declared.channel.Decoded.{Decoded}
 use Rattle.number.specs.Sources.{channelOfValue, halfValue, singleValue, rgbeValue}
 use Rattle.refusal.specs.declared.Refusal.{Refusal}
 use Rattle.refusal.specs.Refusals.{outcomeOf}
+use Rattle.word.specs.declared.header.Header.{Header}
+use Rattle.word.specs.Words.{stripLength}
 use Rattle.strip.specs.Checks.{channelCount}
 use Rattle.refusal.specs.Output.{after}
 use Rattle.convert.specs.Formats.{Format}
-use Rattle.convert.specs.Converting.{converted}
+use Rattle.convert.specs.Converting.{checkSource, converted}
 use Rattle.average.specs.declared.average.Average.{Average}
 use Rattle.average.specs.declared.average.Average.the-variants.{Present}
 use Rattle.average.specs.Tables.{logOf, rootOf}
@@ -21,9 +23,10 @@ use Rattle.page.specs.declared.tally.TallyOrRefusal.{TallyOrRefusal}
 use Rattle.page.specs.Checks.{checkMap}
 use Rattle.page.specs.Tallying.{tallyTold, tallyStrip}
 use Rattle.page.specs.Mapping.{stripLevels}
+use Rattle.ppm.specs.Answers.{printedFor, bytesOf}
 
 -- a number of a source; the entry T[M], and X[f]; a page of one row of grey pixels, each given as a half; such a page, of which only the
--- average is asked
+-- average is asked; a file for the picture program
 pub data Input : Type 0 where
   half : (bits : ℕ) → Input
   rgbe : (m e : ℕ) → Input
@@ -32,8 +35,10 @@ pub data Input : Type 0 where
   root : (f : ℕ) → Input
   greys : (key : ℕ) (halves : List ℕ) → Input
   averaged : (key : ℕ) (halves : List ℕ) → Input
+  file : (bytes : List ℕ) → Input
 
--- a channel, or the number of a refusal; an entry; a page's strip, its A with the stored average, and its level bytes; its A alone
+-- a channel, or the number of a refusal; an entry; a page's strip, its A with the stored average, and its level bytes; its A alone; what is
+-- printed
 pub data Answer : Type 0 where
   black : Answer
   lit : (E M : ℕ) → Answer
@@ -41,6 +46,7 @@ pub data Answer : Type 0 where
   entry : (n : ℕ) → Answer
   mapped : (strip : List ℕ) → Average → (levels : List ℕ) → Answer
   steps : (A : ℤ) → Answer
+  prints : (bytes : List ℕ) → Answer
 
 -- ---- what the definitions answer
 
@@ -70,8 +76,15 @@ abbrev pub greySource : (halves : List ℕ) → List ℕ
 greySource [] = []
 greySource (b ∷ bs) = b ∷ b ∷ b ∷ greySource bs
 
+abbrev pub greyHeader : (key : ℕ) (halves : List ℕ) → Header
+greyHeader K bs = record { width = length bs; height = 1; key = K }
+
+-- what converting leaves in an output of zeros that is just long enough
 abbrev pub greyStrip : (key : ℕ) (halves : List ℕ) → List ℕ
-greyStrip K bs = converted Format.half (record { width = length bs; height = 1; key = K }) (greySource bs)
+greyStrip K bs =
+    let h = greyHeader K bs in
+    let n = stripLength h in
+    after (checkSource Format.half h (greySource bs) n) (converted Format.half h (greySource bs)) (replicate n 0)
 
 abbrev pub answerOf : Input → Answer
 answerOf (half b) = channelAnswer (channelOfValue (halfValue b))
@@ -81,6 +94,7 @@ answerOf (log M) = entry (logOf M)
 answerOf (root f) = entry (rootOf f)
 answerOf (greys K bs) = let s = greyStrip K bs in pageAnswer s (tallyStrip s)
 answerOf (averaged K bs) = stepsAnswer (tallyStrip (greyStrip K bs))
+answerOf (file bytes) = prints (bytesOf (printedFor bytes))
 
 -- ---- what document 01 answers
 
@@ -98,6 +112,19 @@ average A E M = Present A (record { exponent = E; mantissa = M })
 abbrev pub greyWords : List ℕ
 greyWords =
     0x10008001 ∷ 0x200000B4 ∷ 0x400080FF ∷ 0x500080FF ∷ 0x600080FF ∷ 0x40007FFF ∷ 0x50007FFF ∷ 0x60007FFF ∷ 0x70000002 ∷ []
+
+-- the same words in a file, "little-endian"
+abbrev pub greyFile : List ℕ
+greyFile =
+    0x01 ∷ 0x80 ∷ 0x00 ∷ 0x10 ∷ 0xB4 ∷ 0x00 ∷ 0x00 ∷ 0x20 ∷
+    0xFF ∷ 0x80 ∷ 0x00 ∷ 0x40 ∷ 0xFF ∷ 0x80 ∷ 0x00 ∷ 0x50 ∷ 0xFF ∷ 0x80 ∷ 0x00 ∷ 0x60 ∷
+    0xFF ∷ 0x7F ∷ 0x00 ∷ 0x40 ∷ 0xFF ∷ 0x7F ∷ 0x00 ∷ 0x50 ∷ 0xFF ∷ 0x7F ∷ 0x00 ∷ 0x60 ∷
+    0x02 ∷ 0x00 ∷ 0x00 ∷ 0x70 ∷ []
+
+-- "Whole output, hexadecimal: 50 36 0A 32 20 31 0A 32 35 35 0A 34 34 34 1D 1D 1D"
+abbrev pub greyPicture : List ℕ
+greyPicture =
+    0x50 ∷ 0x36 ∷ 0x0A ∷ 0x32 ∷ 0x20 ∷ 0x31 ∷ 0x0A ∷ 0x32 ∷ 0x35 ∷ 0x35 ∷ 0x0A ∷ 0x34 ∷ 0x34 ∷ 0x34 ∷ 0x1D ∷ 0x1D ∷ 0x1D ∷ []
 
 abbrev pub table : List Example
 table =
@@ -123,6 +150,8 @@ table =
     -- 40007FFF 50007FFF 60007FFF 70000002"
     greys 180 (0x3C00 ∷ 0x3800 ∷ []) gives mapped greyWords (average (negℤ (pos 129)) 128 180) (52 ∷ 52 ∷ 52 ∷ 29 ∷ 29 ∷ 29 ∷ []) ∷
     averaged 180 (0x3C00 ∷ 0x3C00 ∷ 0x3800 ∷ []) gives steps (negℤ (pos 87)) ∷
+    -- the picture program's input and output
+    file greyFile gives prints greyPicture ∷
     []
 
 -- The table is as the definitions have it. Proved as `table-holds` in proofs/Table.antt.

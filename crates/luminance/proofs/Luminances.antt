@@ -160,4 +160,4 @@ module _ (p : Pixel) (valid : IsPixel p) where
 -- "E is 67 to 184."
 pub luminance-in-range : LuminanceInRange
 luminance-in-range p valid y e =
-    let range = luminance-range p valid y e in record { least = omega (arith, range); most = range .most }
+    let range = luminance-range p valid y e in record { least = omega (arith, range); most = range .most; closely = range }

@@ -43,7 +43,7 @@ abbrev pub luminanceTold : Luminance → Told
 luminanceTold Unlit = holding (pos 0 ∷ [])
 luminanceTold (Luminance.Lit y) = holding (pos 1 ∷ pos (y .exponent) ∷ pos (y .mantissa) ∷ [])
 
--- "E is 67 to 184", and more closely: every lit luminance lies from (67,246) to (184,255)
+-- where luminances lie: "E is 67 to 184", and more closely, from (67,246) to (184,255)
 pub record IsLuminance (y : Stored) : Type 0 where
   pub least : 256 * 67 + 246 ≤ 256 * y .exponent + y .mantissa
   pub most : y .exponent ≤ 184

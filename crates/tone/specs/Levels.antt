@@ -11,7 +11,7 @@ pub record IsKey (K : ℕ) : Type 0 where
   pub least : 1 ≤ K
   pub most : K ≤ 1000
 
--- a key, and a stored average as step 3 gives it
+-- a key, and a stored average where they lie
 pub record IsTone (t : Tone) : Type 0 where
   pub key : IsKey (t .key)
   pub average : IsStoredAverage (t .average)

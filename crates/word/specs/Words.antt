@@ -23,7 +23,7 @@ keyFits k = leb 1 k && leb k 1000
 
 -- ---- the words
 
--- the word of a kind whose lower 28 bits hold v
+-- the word of a kind whose lower 28 bits hold v, for a v of 28 bits
 abbrev pub wordOf : (kind v : ℕ) → ℕ
 wordOf kind v = kind * 2 ^ 28 + v
 
@@ -51,7 +51,7 @@ abbrev pub bodyWords : (k : ℕ) → List Channel → List ℕ
 bodyWords k [] = []
 bodyWords k (c ∷ cs) = channelWord k (codeOf c) ∷ bodyWords (suc k) cs
 
--- "Kind 7, end, last: the pixel count in 27..0."
+-- "Kind 7, end, last: the pixel count in 27..0.", for a count of 28 bits
 abbrev pub endWord : (pixels : ℕ) → ℕ
 endWord n = wordOf 7 n
 
