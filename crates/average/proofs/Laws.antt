@@ -3,8 +3,9 @@
 -- what T promises, and the range of a luminance's steps
 pub use Rattle.average.proofs.Rules.{log-below, log-above}
 pub use Rattle.average.proofs.Sums.{steps-least, steps-most}
--- tallies: of no luminance, of lists one after the other, of one luminance more; the range of the sum, which 64 bits hold
-pub use Rattle.average.proofs.Sums.{tally-none, tally-append, tally-snoc, sum-more, tally-is-sum, sum-fits}
+-- tallies: of lists one after the other; by raised steps; the range of the sum, which 64 bits hold; the extremes
+pub use Rattle.average.proofs.Sums.{tallies-join, total-append, sum-is, raised-most, tally-is-sum, sum-fits}
+pub use Rattle.average.proofs.Widening.{extremes-hold}
 -- what X promises; the ranges of an average in steps and of a stored average; when one is reported
 pub use Rattle.average.proofs.Rules.{root-below, root-above}
 pub use Rattle.average.proofs.Averages.{sum-has-average, stored-average-range, Reported, reported, absent, reported-range}

@@ -7,7 +7,8 @@ pub mod Entries
 -- signed numbers of 64 bits, and their division
 pub mod Signed
 pub mod Division
--- sums and averages
+-- extremes, sums and averages
+pub mod Widening
 pub mod Spread
 pub mod Sums
 pub mod Averages

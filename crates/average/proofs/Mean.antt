@@ -18,8 +18,9 @@ use Rattle.average.specs.Tallies.{sumOf}
 use Rattle.average.proofs.Averages.{reported}
 use Rattle.average.proofs.Division.{floor-sub}
 use Rattle.average.proofs.Rules.{log-below, log-above}
-use Rattle.average.proofs.Spread.{mul-pow, pow-mul, total, productOf, mean-low, mean-high}
-use Rattle.average.proofs.Sums.{raisedSteps, sum-is}
+use Rattle.average.specs.loops.Sums.{total, raisedSteps}
+use Rattle.average.proofs.Spread.{mul-pow, pow-mul, productOf, mean-low, mean-high}
+use Rattle.average.proofs.Sums.{sum-is}
 
 -- T[M] is a logarithm of M + 1/2 to within a step: 2^(s·T + l) ≤ (2M+1)^(256·s) < 2^(s·(T+1) + l)
 record Rounded (s l M : ℕ) : Type 0 where

@@ -1,5 +1,5 @@
 -- Signed numbers as 64 bits hold them: what a test against 0, a sum and a cast say of numbers that fit. Assumes nothing.
-use mathlib.Core.Path.{_≡_, refl, ap, _∙_}
+use mathlib.Core.Path.{_≡_, refl, sym, ap, _∙_}
 use mathlib.Core.Bool.{true, false}
 use Prim.Native.Nat.{ℕ, zero, suc, _+_, _^_, _≤_, _<_}
 use native.Mathlib.Nat.{zero-add, not-suc-le-zero}
@@ -11,7 +11,7 @@ use borrow.Author.Tests.{ltb-true}
 use mir.Syntax.{w64}
 use mir.Val.{Fits, SFits, toZ, ofZ}
 use mir.Facts.{toZ-ofZ, fits-natAbs}
-use Rattle.number.proofs.Laws.{sub-pos, sub-neg, sub-cases}
+use Rattle.number.proofs.Laws.{sub-pos, sub-neg, sub-cases, sub-minus}
 
 -- −1 − z
 pub complement-pos : (a : ℕ) → negsuc 0 -ℤ pos a ≡ negsuc a
@@ -33,6 +33,9 @@ below-zero (negsuc a) e = refl
 not-below-zero : (z : ℤ) → ltZ z (pos 0) ≡ false → z ≡ pos (mag z)
 not-below-zero (pos a) e = refl
 not-below-zero (negsuc a) e = cc
+
+pub difference : (a b : ℕ) → pos a -ℤ pos b ≡ subℕ a b
+difference a b = ap (λ z. z -ℤ pos b) (sym (sub-pos a 0 a (omega arith))) ∙ sub-minus a 0 b ∙ rw (zero-add b)
 
 -- a natural number that fits is read as itself
 pub held : (n : ℕ) → n < 2 ^ 63 → toZ w64 n ≡ pos n

@@ -26,6 +26,7 @@ use native.Mathlib.Omega.{arith}
 use lib.ListN.{length}
 use lib.Pow.{pow-add, pow-mono, pow-pos}
 use Rattle.number.proofs.Laws.{Every}
+use Rattle.average.specs.loops.Sums.{total}
 
 -- ---- powers
 
@@ -44,13 +45,9 @@ pow-mul a i (suc j) = rw (pow-suc, pow-mul a i j, mul-suc, pow-add)
 mul-lt-mul : {a b c d : ℕ} → a < b → c ≤ d → 0 < d → a * c < b * d
 mul-lt-mul {a} h k d>0 = lt-of-le-of-lt (mul-le-mul-left a k) (mul-lt-mul-of-pos-right h d>0)
 
--- ---- sums and products over a list
+-- ---- products over a list
 
 module _ {X : Type 0} where
-  abbrev pub total : (X → ℕ) → List X → ℕ
-  total f [] = 0
-  total f (x ∷ xs) = f x + total f xs
-
   abbrev pub productOf : (X → ℕ) → List X → ℕ
   productOf f [] = 1
   productOf f (x ∷ xs) = f x * productOf f xs

@@ -6,7 +6,7 @@ use native.Mathlib.Nat.{lt-of-not-le}
 use native.Mathlib.Decide.{decLe}
 use native.Mathlib.Numerals.{add-one}
 use native.Mathlib.Omega.{arith}
-use lib.IntN.{ℤ, pos, negℤ, subℕ, _+ℤ_, +ℤ-idl, +ℤ-idr, +ℤ-assoc, +ℤ-comm}
+use lib.IntN.{ℤ, pos, negℤ, subℕ, _+ℤ_, +ℤ-idl, +ℤ-assoc, +ℤ-comm}
 use lib.ListN.{length, length-append}
 use lib.Signed.{_≤ℤ_, leZ-yes}
 use mir.Syntax.{w64}
@@ -14,19 +14,19 @@ use mir.Val.{SFits}
 use Rattle.number.proofs.Laws.{Every, sub-add, sub-least, sub-most, Lowered, lowered}
 use Rattle.number.specs.declared.ratio.Stored.{Stored}
 use Rattle.average.specs.Averages.{stepsOf}
-use Rattle.average.specs.loops.Sums.{IsSum, withLuminance}
+use Rattle.average.specs.loops.Sums.{total, raisedSteps, IsSum}
 use Rattle.luminance.specs.Pixels.{IsLuminance}
-use Rattle.average.specs.Tables.{logTest, logOf}
-use Rattle.average.specs.Tallies.{sumOf, tallyOf, join}
+use Rattle.average.specs.Tables.{logTest}
+use Rattle.average.specs.Tallies.{sumOf}
+use Rattle.average.specs.Claims.{TalliesJoin}
 use Rattle.average.proofs.Rules.{log-le, log-from}
 use Rattle.average.proofs.Signed.{sub-fits}
-use Rattle.average.proofs.Spread.{total}
-
--- 256E + T[M]: the steps of a luminance, and 34,816 more
-abbrev pub raisedSteps : Stored → ℕ
-raisedSteps y = 256 * y .exponent + logOf (y .mantissa)
+use Rattle.average.proofs.Widening.{extremes-append}
 
 -- ---- one luminance
+
+pub raised-most : (y : Stored) → raisedSteps y ≤ 256 * y .exponent + 2047
+raised-most y = omega (arith, log-le (y .mantissa))
 
 pub record InSteps (steps : ℕ) : Type 0 where
   pub least : 19186 ≤ steps
@@ -85,20 +85,16 @@ tally-is-sum (y ∷ ys) h few =
     rw (+ℤ-comm (stepsOf y) (sumOf ys), ← add-one (length ys))
     (sum-more y (tally-is-sum ys (h .1) (omega arith)) (omega arith) (h .0))
 
--- ---- no luminance, lists one after the other, one luminance more
+-- ---- lists one after the other
 
-pub tally-none : tallyOf [] ≡ record { count = 0; sum = pos 0 }
-unfolding sumOf
-tally-none = refl
+pub total-append : {X : Type 0} (f : X → ℕ) (xs ys : List X) → total f (xs ++ ys) ≡ total f xs + total f ys
+total-append f [] ys = omega arith
+total-append f (x ∷ xs) ys = omega (arith, total-append f xs ys)
 
 sum-append : (xs ys : List Stored) → sumOf (xs ++ ys) ≡ sumOf xs +ℤ sumOf ys
 unfolding sumOf
 sum-append [] ys = rw +ℤ-idl
 sum-append (x ∷ xs) ys = rw (sum-append xs ys, +ℤ-assoc)
 
-pub tally-append : (xs ys : List Stored) → tallyOf (xs ++ ys) ≡ join (tallyOf xs) (tallyOf ys)
-tally-append xs ys = rw (sum-append, length-append)
-
-pub tally-snoc : (ys : List Stored) (y : Stored) → tallyOf (ys ++ (y ∷ [])) ≡ withLuminance (tallyOf ys) y
-unfolding sumOf
-tally-snoc ys y = rw (sum-append, length-append, +ℤ-idr)
+pub tallies-join : TalliesJoin
+tallies-join xs ys = rw (sum-append, length-append, extremes-append)

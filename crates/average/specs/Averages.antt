@@ -39,9 +39,9 @@ storedAverage A =
 unfoldable pub averageOf : (count : ℕ) (sum : ℤ) → Average
 averageOf count sum = cond (eqb count 0) Absent (Present (floorDiv sum count) (storedAverage (floorDiv sum count)))
 
--- in numbers: whether there is an average, and then A, E and M
+-- in numbers: whether there is an average, A, E and M; all are 0 where there is none
 abbrev pub averageValues : Average → List ℤ
-averageValues Absent = pos 0 ∷ []
+averageValues Absent = pos 0 ∷ pos 0 ∷ pos 0 ∷ pos 0 ∷ []
 averageValues (Present A a) = pos 1 ∷ A ∷ pos (a .exponent) ∷ pos (a .mantissa) ∷ []
 
 abbrev pub averageTold : Average → Told

@@ -1,8 +1,10 @@
--- What steps 2 and 3 say of their numbers, and the first half of demand 3: the average against the true logarithm of the mean. Assumes
--- nothing. Proved as `entries-greatest` (proofs/Rules.antt), `floor-divides` (proofs/Division.antt), `averages-in-range`
--- (proofs/Averages.antt) and `mean-bound` (proofs/Mean.antt).
+-- What steps 2 and 3 say of their numbers, what a tally's extremes are, and the first half of demand 3: the average against the true
+-- logarithm of the mean. Assumes nothing. Proved as `entries-greatest` (proofs/Rules.antt), `floor-divides` (proofs/Division.antt),
+-- `averages-in-range` (proofs/Averages.antt), `extremes-hold` (proofs/Widening.antt), `tallies-join` (proofs/Sums.antt) and `mean-bound`
+-- (proofs/Mean.antt).
 use mathlib.Core.Path.{_≡_}
-use mathlib.Core.List.{List, [], _∷_}
+use mathlib.Core.Logic.{_⊎_}
+use mathlib.Core.List.{List, [], _∷_, _++_}
 use Prim.Native.Nat.{ℕ, _+_, _*_, _^_, _≤_, _<_}
 use lib.IntN.{ℤ, pos, negℤ, _+ℤ_, _-ℤ_, _*ℤ_}
 use lib.ListN.{length}
@@ -10,10 +12,12 @@ use lib.Signed.{_≤ℤ_}
 use Rattle.number.proofs.Laws.{Every, Frac, _over_, _·_, power, twoToThe, AtMost, Below, storedWorth}
 use Rattle.number.specs.declared.ratio.Stored.{Stored}
 use Rattle.luminance.specs.Pixels.{IsLuminance}
-use Rattle.average.specs.Tallies.{sumOf}
+use Rattle.average.specs.Tallies.{sumOf, tallyOf, join}
 use Rattle.average.specs.Tables.{logOf, rootOf}
 use Rattle.average.specs.Averages.{floorDiv, floorMod, averageOf, IsStoredAverage}
 use Rattle.average.specs.declared.average.Average.the-variants.{Present}
+use Rattle.average.specs.declared.tally.Extremes.{Extremes}
+use Rattle.average.specs.declared.tally.Extremes.the-variants.{Absent, Both}
 
 -- ---- steps 2 and 3
 
@@ -50,6 +54,37 @@ pub record AverageRange (A : ℤ) (average : Stored) : Type 0 where
 abbrev pub AveragesInRange : Type 0
 AveragesInRange = (ys : List Stored) → Every IsLuminance ys → length ys ≤ 2 ^ 40
     → (A : ℤ) (average : Stored) → averageOf (length ys) (sumOf ys) ≡ Present A average → AverageRange A average
+
+-- ---- the extremes of a tally
+
+-- one of the luminances of a list
+abbrev pub Occurs : Stored → List Stored → Type 0
+Occurs y [] = ⊥
+Occurs y (x ∷ xs) = (y ≡ x) ⊎ Occurs y xs
+
+-- y lies between the two by worth
+pub record Between (darkest brightest y : Stored) : Type 0 where
+  pub low : AtMost (storedWorth darkest) (storedWorth y)
+  pub high : AtMost (storedWorth y) (storedWorth brightest)
+
+-- "the invariant of the record is that both occur on the page", and every luminance lies between them
+pub record AreExtremes (darkest brightest : Stored) (ys : List Stored) : Type 0 where
+  pub darkest-occurs : Occurs darkest ys
+  pub brightest-occurs : Occurs brightest ys
+  pub between : Every (Between darkest brightest) ys
+
+-- absent exactly where there is no luminance: where both are told, they occur
+abbrev pub HasExtremes : Extremes → List Stored → Type 0
+HasExtremes Absent ys = length ys ≡ 0
+HasExtremes (Both darkest brightest) ys = AreExtremes darkest brightest ys
+
+-- of every tally
+abbrev pub ExtremesHold : Type 0
+ExtremesHold = (ys : List Stored) → HasExtremes (tallyOf ys .extremes) ys
+
+-- the tally of two lists one after the other is the join of theirs
+abbrev pub TalliesJoin : Type 0
+TalliesJoin = (xs ys : List Stored) → tallyOf (xs ++ ys) ≡ join (tallyOf xs) (tallyOf ys)
 
 -- ---- the first half of demand 3
 

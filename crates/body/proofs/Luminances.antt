@@ -21,10 +21,9 @@ use Rattle.average.specs.Averages.{stepsOf}
 use Rattle.average.specs.Tallies.{tallyOf, join}
 use Rattle.luminance.proofs.Laws.{luminance-range}
 use Rattle.body.specs.Luminances.{ifLit, luminancesOf, litCount}
-use Rattle.body.specs.loops.Indices.{withPixel}
-use Rattle.average.proofs.Laws.{tally-append, tally-snoc}
+use Rattle.average.proofs.Laws.{tallies-join}
 
--- ---- pixels one after another, and one pixel more
+-- ---- pixels one after another
 
 lit-append : (y : Luminance) (ys zs : List Stored) → ifLit y (ys ++ zs) ≡ ifLit y ys ++ zs
 lit-append Unlit ys zs = refl
@@ -37,28 +36,7 @@ luminances-append (p ∷ ps) qs = rw (luminances-append ps qs) (lit-append (lumi
 
 pub tally-join : (ps qs : List Pixel)
     → tallyOf (luminancesOf (ps ++ qs)) ≡ join (tallyOf (luminancesOf ps)) (tallyOf (luminancesOf qs))
-tally-join ps qs = ap tallyOf (luminances-append ps qs) ∙ tally-append (luminancesOf ps) (luminancesOf qs)
-
-tally-one : (ys : List Stored) (y : Luminance) → tallyOf (ys ++ ifLit y []) ≡ withPixel (tallyOf ys) y
-tally-one ys Unlit = rw append-nil
-tally-one ys (Luminance.Lit y) = tally-snoc ys y
-
-tally-pixel : (ps : List Pixel) (p : Pixel)
-    → tallyOf (luminancesOf (ps ++ (p ∷ []))) ≡ withPixel (tallyOf (luminancesOf ps)) (luminanceOf p)
-unfolding luminancesOf
-tally-pixel ps p = rw (luminances-append ps (p ∷ [])) (tally-one (luminancesOf ps) (luminanceOf p))
-
-pub join-assoc : (t u v : Tally) → join (join t u) v ≡ join t (join u v)
-join-assoc t u v = rw (+ℤ-assoc (t .sum) (u .sum) (v .sum), add-assoc (t .count) (u .count) (v .count))
-
-join-pixel : (t u : Tally) (y : Luminance) → withPixel (join t u) y ≡ join t (withPixel u y)
-join-pixel t u Unlit = refl
-join-pixel t u (Luminance.Lit y) = rw (+ℤ-assoc (t .sum) (u .sum) (stepsOf y), add-assoc (t .count) (u .count) 1)
-
--- a tally of others before, with one pixel more
-pub tally-next : (before : Tally) (ps : List Pixel) (p : Pixel)
-    → withPixel (join before (tallyOf (luminancesOf ps))) (luminanceOf p) ≡ join before (tallyOf (luminancesOf (ps ++ (p ∷ []))))
-tally-next before ps p = join-pixel before (tallyOf (luminancesOf ps)) (luminanceOf p) ∙ ap (join before) (sym (tally-pixel ps p))
+tally-join ps qs = ap tallyOf (luminances-append ps qs) ∙ tallies-join (luminancesOf ps) (luminancesOf qs)
 
 -- ---- the number of lit pixels
 

@@ -3,7 +3,7 @@ use Prim.Native.Nat.{ℕ, _*_, _%_}
 use mathlib.Core.Path.{ap, _∙_}
 use mathlib.Core.List.{List}
 use native.Mathlib.Nat.{zero-add, add-comm}
-use lib.ListN.{getD, replicate, getD-replicate}
+use lib.ListN.{getD, replicate, length-replicate, getD-replicate}
 use Rattle.word.specs.Fields.{low16}
 use Rattle.body.specs.loops.NearBlocks.{TakenCodes, AreNear, NearIndices}
 
@@ -12,6 +12,7 @@ pub block-near : (ws : List ℕ) {reds greens blues indices : List ℕ} → Take
     → AreNear reds greens blues indices → NearIndices ws indices
 block-near ws r g b near =
     record {
+      long = near .long;
       near = λ j h.
           let reds = r .code j h ∙ ap (λ k. low16 (getD ws k 0)) (zero-add (3 * j)) in
           let greens = g .code j h ∙ ap (λ k. low16 (getD ws k 0)) (add-comm 1 (3 * j)) in
@@ -21,4 +22,4 @@ block-near ws r g b near =
 
 -- nothing is worked out
 pub none-near : (ws : List ℕ) → NearIndices ws (replicate 16 0)
-none-near ws = record { near = λ j h. record { right = λ r g b other. absurd (other (ap (λ i. i % 128) (getD-replicate 16 j 0 0 h))) } }
+none-near ws = record { long = length-replicate {A = ℕ} 16 0; near = λ j h. record { right = λ r g b other. absurd (other (ap (λ i. i % 128) (getD-replicate 16 j 0 0 h))) } }

@@ -1,60 +1,36 @@
 // Channel words tallied, pixel by pixel; where an output has room for it, it keeps each pixel's luminance for the levels.
 ghost use mathlib.Core.Path.{_≡_};
+ghost use mathlib.Core.List.{map};
 ghost use Prim.Native.Nat.{_+_, _^_, _≤_, _<_};
-ghost use lib.ListN.{length};
+ghost use lib.ListN.{length, replicate};
 ghost use lib.Seq.{sets};
-ghost use Rattle.number.specs.Channels.{IsCode};
 ghost use Rattle.refusal.specs.Output.{onto};
-ghost use Rattle.word.specs.Fields.{low16};
-ghost use Rattle.word.specs.Pixels.{pixelOf, wordChannel, wordPixels};
-ghost use Rattle.luminance.specs.Pixels.{luminanceOf};
-ghost use Rattle.luminance.specs.loops.Codes.{IsWeightTable, IsNear, indexOf, indexCount};
-ghost use Rattle.average.specs.Tallies.{tallyOf, join};
+ghost use Rattle.word.specs.Pixels.{wordPixels};
+ghost use Rattle.luminance.specs.loops.Codes.{IsWeightTable, indexCount};
+ghost use Rattle.average.specs.Tallies.{tallyOf};
 ghost use Rattle.average.specs.loops.Entries.{IsLogTable};
-ghost use Rattle.average.specs.loops.Sums.{IsSum};
 ghost use Rattle.body.specs.Luminances.{luminancesOf};
-ghost use Rattle.body.specs.loops.Indices.{IsBody, luminanceAt, IsIndex, withPixel, indexBytes, indicesOf};
+ghost use Rattle.body.specs.loops.Indices.{IsBody, indexBytes, indicesOf};
+ghost use Rattle.body.specs.loops.Runs.{unlitAt, sumsOf, AreSums, lowest, fromDarkest, fromBrightest, extremesAt, KeptLowest, tallyFrom, indexList};
 use crate::blocks::block_end;
 use crate::near::NEAR_PIXELS;
 use crate::near::near_indices;
 use average::tables::log_table;
+use average::tally::Extremes;
 use average::tally::Tally;
-use average::tally::no_luminance;
-use average::tally::with_luminance;
+use average::tally::lowered_sum;
+use average::tally::raised_steps;
 use luminance::index::blue_weights;
 use luminance::index::luminance_index;
 use luminance::index::red_weights;
 use luminance::index::stored_at;
+use number::order::lesser;
 use word::header::low_half;
 
-// The index of the luminance of a pixel's words: the one that is at hand, where it is worked out.
-fn word_index(
-    reds: &[u64; 48],
-    blues: &[u64; 48],
-    near: u16,
-    red: u32,
-    green: u32,
-    blue: u32,
-) -> u64
-    requires { ⌜ IsWeightTable 27 (now reds) × IsWeightTable 6 (now blues) × IsCode (low16 red) × IsCode (low16 green) × IsCode (low16 blue)
-        × IsNear (low16 red) (low16 green) (low16 blue) near ⌝ }
-    ensures { λ r. ⌜ r ≡ indexOf (luminanceOf (pixelOf (wordChannel red) (wordChannel green) (wordChannel blue))) ⌝ }
-{
-    if near % 128 != 0 {
-        return near as u64;
-    }
-    luminance_index(reds, blues, low_half(red), low_half(green), low_half(blue))
-}
-
-// A tally with one pixel more, which counts where it is lit, by its luminance's index.
-fn with_index(logs: &[u16; 128], tally: Tally, index: u64) -> Tally
-    requires { ⌜ IsLogTable (now logs) × IsIndex index × IsSum (tally .count) (tally .sum) × (tally .count < 2 ^ 40) ⌝ }
-    ensures { λ r. ⌜ r ≡ withPixel tally (luminanceAt index) ⌝ }
-{
-    if index == 0 {
-        return tally;
-    }
-    with_luminance(logs, tally, stored_at(index))
+// What the tally of some pixels is made of: how many are unlit, and the sum of the raised steps at the indices of all of them.
+pub struct Sums {
+    pub unlit: u64,
+    pub raised: u64,
 }
 
 // An index into the three bytes of a pixel in the output, from `at` on.
@@ -67,8 +43,24 @@ fn store_index(index: u64, at: usize, output: &mut [u8])
     output[at + 2] = 0;
 }
 
-// A tally with the pixels of a block of words more, the words from number `at` on of `all`. In an output that has room for all of them, the
-// index of each pixel's luminance goes into the pixel's place. The near indices of a whole block are worked out first.
+// An index in 64 bits.
+fn wide_index(index: u16) -> u64
+    ensures { λ r. ⌜ r ≡ index ⌝ }
+{
+    index as u64
+}
+
+// How many pixels are unlit, with that of an index.
+fn with_unlit(unlit: u64, index: u64) -> u64
+    requires { ⌜ unlit < 2 ^ 40 ⌝ }
+    ensures { λ r. ⌜ r ≡ unlit + unlitAt index ⌝ }
+{
+    if index == 0 { unlit + 1 } else { unlit }
+}
+
+// The indices and the sums of a block of words, the words from number `at` on of `all`. In an output that has room for all of them, the index
+// of each pixel's luminance goes into the pixel's place. The near indices of a whole block are worked out first; the others are put beside
+// them one by one.
 fn index_part(
     logs: &[u16; 128],
     reds: &[u64; 48],
@@ -76,34 +68,109 @@ fn index_part(
     words: &[u32],
     at: usize,
     all: usize,
-    before: Tally,
+    indices: &mut [u16; 16],
     output: &mut [u8],
-) -> Tally
+) -> Sums
     requires { ⌜ IsLogTable (now logs) × IsWeightTable 27 (now reds) × IsWeightTable 6 (now blues) × IsBody (now words)
-        × (length (now words) ≤ 48) × (at + length (now words) ≤ all)
-        × IsSum (before .count) (before .sum) × (before .count + 16 ≤ 2 ^ 40) ⌝ }
-    ensures tally { λ r. ⌜ r ≡ join before (tallyOf (luminancesOf (wordPixels (now (words .entry))))) ⌝ }
+        × (length (now words) ≤ 48) × (at + length (now words) ≤ all) × (now indices ≡ replicate 16 0) ⌝ }
+    ensures sums { λ r. ⌜ r ≡ sumsOf (indexList (wordPixels (now (words .entry)))) ⌝ }
+    ensures indices { λ _. ⌜ now (indices .exit) ≡ onto (indexList (wordPixels (now (words .entry)))) (replicate 16 0) ⌝ }
     ensures content { λ _. ⌜ (length (now (output .exit)) ≡ length (now (output .entry)))
         × (all ≤ length (now (output .entry))
         → now (output .exit) ≡ sets (now (output .entry)) at (indicesOf (wordPixels (now (words .entry))))) ⌝ }
 {
-    let mut near = [0u16; 16];
     if words.len() == 3 * NEAR_PIXELS {
-        near_indices(words, &mut near);
+        near_indices(words, indices);
     }
     let pixels = words.len() / 3;
-    let mut tally = before;
+    let mut unlit: u64 = 0;
+    let mut raised: u64 = 0;
     let mut p: usize = 0;
     while p < pixels {
         let k = 3 * p;
-        let index = word_index(reds, blues, near[p], words[k], words[k + 1], words[k + 2]);
+        let mut index = wide_index(indices[p]);
+        if index % 128 == 0 {
+            index = luminance_index(
+                reds,
+                blues,
+                low_half(words[k]),
+                low_half(words[k + 1]),
+                low_half(words[k + 2]),
+            );
+            indices[p] = index as u16;
+            unlit = with_unlit(unlit, index);
+        }
         if all <= output.len() {
             store_index(index, at + k, output);
         }
-        tally = with_index(logs, tally, index);
+        raised += raised_steps(logs, stored_at(index));
         p += 1;
     }
-    tally
+    Sums {
+        unlit: unlit,
+        raised: raised,
+    }
+}
+
+// The extremes of a block are kept in 16 places each, so that a compiler takes several at a time: in each the lowest index so far, counted from
+// the darkest on or from the brightest on.
+fn keep_lowest(indices: &[u16; 16], dark: &mut [u16; 16], bright: &mut [u16; 16])
+    requires { ⌜ (length (now indices) ≡ 16) × (length (now dark) ≡ 16) × (length (now bright) ≡ 16) ⌝ }
+    ensures dark { λ _. ⌜ KeptLowest (now (dark .entry)) (map fromDarkest (now (indices .entry))) (now (dark .exit)) ⌝ }
+    ensures bright { λ _. ⌜ KeptLowest (now (bright .entry)) (map fromBrightest (now (indices .entry))) (now (bright .exit)) ⌝ }
+{
+    let mut j: usize = 0;
+    while j < NEAR_PIXELS {
+        let index = indices[j];
+        dark[j] = lesser(dark[j], std::num::wrapping_sub_u16(index, 1));
+        bright[j] = lesser(bright[j], 65535 - index);
+        j += 1;
+    }
+}
+
+// The lowest of the 16.
+fn lowest_of(places: &[u16; 16]) -> u16
+    requires { ⌜ length (now places) ≡ 16 ⌝ }
+    ensures { λ r. ⌜ r ≡ lowest (now (places .entry)) ⌝ }
+{
+    let mut low: u16 = 65535;
+    let mut j: usize = 0;
+    while j < NEAR_PIXELS {
+        low = lesser(low, places[j]);
+        j += 1;
+    }
+    low
+}
+
+// The extremes by the lowest index, counted from the darkest on and from the brightest on.
+fn extremes_at(dark: u16, bright: u16) -> Extremes
+    ensures { λ r. ⌜ r ≡ extremesAt dark bright ⌝ }
+{
+    if bright == 65535 {
+        return Extremes::Absent;
+    }
+    Extremes::Both(stored_at(dark as u64 + 1), stored_at(65535 - bright as u64))
+}
+
+// The tally of pixels by their sums and lowest indices.
+fn tally_from(
+    logs: &[u16; 128],
+    pixels: usize,
+    unlit: u64,
+    raised: u64,
+    dark: u16,
+    bright: u16,
+) -> Tally
+    requires { ⌜ IsLogTable (now logs) × AreSums pixels unlit raised ⌝ }
+    ensures { λ r. ⌜ r ≡ tallyFrom pixels unlit raised dark bright ⌝ }
+{
+    let count = pixels as u64 - unlit;
+    let steps = raised_steps(logs, stored_at(0));
+    Tally {
+        count: count,
+        sum: lowered_sum(count, raised - unlit * steps),
+        extremes: extremes_at(dark, bright),
+    }
 }
 
 // The tally of channel words, with the indices in an output that has room.
@@ -118,15 +185,29 @@ fn index_pixels(words: &[u32], output: &mut [u8]) -> Tally
     let blues = blue_weights();
     let all = words.len();
     let pixels = all / 3;
-    let mut tally = no_luminance();
+    let mut dark = [65535u16; 16];
+    let mut bright = [65535u16; 16];
+    let mut unlit: u64 = 0;
+    let mut raised: u64 = 0;
     let mut p: usize = 0;
     while p < pixels {
         let end = block_end(p, NEAR_PIXELS, pixels);
         let part = &words[3 * p..3 * end];
-        tally = index_part(&logs, &reds, &blues, part, 3 * p, all, tally, output);
+        let mut indices = [0u16; 16];
+        let sums = index_part(&logs, &reds, &blues, part, 3 * p, all, &mut indices, output);
+        keep_lowest(&indices, &mut dark, &mut bright);
+        unlit += sums.unlit;
+        raised += sums.raised;
         p = end;
     }
-    tally
+    tally_from(
+        &logs,
+        pixels,
+        unlit,
+        raised,
+        lowest_of(&dark),
+        lowest_of(&bright),
+    )
 }
 
 // The tally of channel words.

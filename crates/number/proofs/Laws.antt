@@ -5,7 +5,7 @@
 pub use Rattle.number.specs.Lists.{Every}
 pub use Rattle.number.proofs.Lists.{every-map, every-take, Filled, filled-none, filled-next}
 pub use Rattle.number.specs.Fractions.{Frac, _over_, _·_, _÷_, _times_, power, twoToMinus, twoTo, twoToThe}
-pub use Rattle.number.specs.Fractions.{Positive, Equal, AtMost, Below}
+pub use Rattle.number.specs.Fractions.{Positive, Equal, AtMost, Below, atMost}
 pub use Rattle.number.specs.Storing.{Normalised, Scales, IsMantissa, Stores, unit, worth, storedWorth, storedOf, ratioOf}
 pub use Rattle.number.specs.Channels.{IsLit, IsChannel, worthOf, codeOf, codeChannel, Coded, IsCode}
 -- the claims: one exponent and mantissa, which `exponentOf` and `mantissaOf` are; what storing promises; where lit channels lie

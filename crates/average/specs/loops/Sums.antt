@@ -1,14 +1,20 @@
--- A tally that is being made, and what its average rests on. Assumes nothing.
+-- Sums of steps, and what an average rests on. Assumes nothing.
+use mathlib.Core.List.{List, [], _∷_}
 use Prim.Native.Nat.{ℕ, _+_, _*_, _^_, _≤_, _<_}
-use lib.IntN.{ℤ, pos, negℤ, _+ℤ_}
+use lib.IntN.{ℤ, pos, negℤ}
 use lib.Signed.{_≤ℤ_}
 use Rattle.number.specs.declared.ratio.Stored.{Stored}
-use Rattle.average.specs.declared.tally.Tally.{Tally}
-use Rattle.average.specs.Averages.{stepsOf, floorDiv, IsAverage}
+use Rattle.average.specs.Averages.{floorDiv, IsAverage}
+use Rattle.average.specs.Tables.{logOf}
 
--- a tally with one luminance more
-abbrev pub withLuminance : Tally → Stored → Tally
-withLuminance t y = record { count = t .count + 1; sum = t .sum +ℤ stepsOf y }
+-- a sum over a list
+abbrev pub total : {X : Type 0} → (X → ℕ) → List X → ℕ
+total f [] = 0
+total f (x ∷ xs) = f x + total f xs
+
+-- 256E + T[M]: the steps of a luminance, and 34,816 more
+abbrev pub raisedSteps : Stored → ℕ
+raisedSteps y = 256 * y .exponent + logOf (y .mantissa)
 
 -- the average of count and sum, where there is one, lies among those that there are
 pub record HasAverage (count : ℕ) (sum : ℤ) : Type 0 where

@@ -15,18 +15,11 @@ use Rattle.luminance.specs.loops.Codes.{indexOf, indexCount, storedAt}
 use Rattle.luminance.specs.Pixels.{luminanceOf, IsLuminance}
 use Rattle.luminance.specs.declared.pixel.Luminance.{Luminance}
 use Rattle.luminance.specs.declared.pixel.Luminance.the-variants.{Unlit, Lit}
-use Rattle.average.specs.declared.tally.Tally.{Tally}
-use Rattle.average.specs.loops.Sums.{withLuminance}
 
 -- words whose lower halves are channels, at most 2^40 of them
 pub record IsBody (ws : List ℕ) : Type 0 where
   pub few : length ws ≤ 2 ^ 40
   pub code : (k : ℕ) → k < length ws → IsCode (low16 (getD ws k 0))
-
--- a tally with one pixel more
-abbrev pub withPixel : Tally → Luminance → Tally
-withPixel t Unlit = t
-withPixel t (Lit y) = withLuminance t y
 
 -- the luminance at an index, none at 0
 unfoldable pub luminanceAt : (i : ℕ) → Luminance

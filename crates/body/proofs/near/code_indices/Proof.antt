@@ -22,7 +22,7 @@ loop-again c =
     filled-next (t .before .loop .inv) (t .loop-test .taken) (rw (c .near-index .ensures) (is-near _ _ _))
 
 returns : tie.Need-returns Inv-loop μ-loop
-returns c = record { near = λ k h. c .before .loop .inv .entry k (omega arith) }
+returns c = record { long = c .before .loop .inv .size; near = λ k h. c .before .loop .inv .entry k (omega arith) }
 
 pub code-indices-spec : {M : Type 1} → statement M
 code-indices-spec =
