@@ -1,9 +1,12 @@
 -- For the crates above: an answer in numbers keeps what the call beneath promises. Assumes nothing.
-use Prim.Native.Nat.{ℕ}
+use Prim.Native.Nat.{ℕ, _<_}
 use mathlib.Core.Path.{_≡_, refl, sym, ap, subst, _∙_}
 use mathlib.Core.Logic.{inl, inr}
-use mathlib.Core.List.{List}
+use mathlib.Core.List.{List, [], _∷_}
 use native.Mathlib.Omega.{arith}
+use lib.IntN.{pos, natAbs}
+use lib.ListN.{length, getD}
+use Rattle.number.specs.declared.ratio.Stored.{Stored}
 use Rattle.refusal.proofs.Laws.{numbered}
 use Rattle.refusal.specs.declared.Outcome.{Outcome}
 use Rattle.refusal.specs.declared.Verdict.{Verdict}
@@ -11,6 +14,13 @@ use Rattle.refusal.specs.declared.Verdict.the-variants.{Accepted, Refused}
 use Rattle.refusal.specs.Verdicts.{reportOf}
 use Rattle.refusal.specs.Output.{after}
 use Rattle.average.specs.declared.average.Average.the-variants.{Absent, Present}
+use Rattle.average.specs.declared.tally.Extremes.{Extremes}
+use Rattle.average.specs.declared.tally.Extremes.the-variants.{Both}
+use Rattle.average.specs.Tallies.{extremesValues}
+use Rattle.average.specs.Claims.{Occurs, AreExtremes, HasExtremes}
+use Rattle.strip.specs.Reading.{stripPixels}
+use Rattle.body.specs.Luminances.{luminancesOf, litCount}
+use Rattle.body.proofs.Laws.{lit-count}
 use Rattle.page.specs.declared.tally.TallyOrRefusal.{TallyOrRefusal}
 use Rattle.page.specs.declared.tally.TallyOrRefusal.the-variants.{Holds, Refuses}
 use Rattle.page.specs.Claims.{TallyPromise, MapPromise}
@@ -25,16 +35,57 @@ pub reported : {verdict v : Verdict} {front old new : List ℕ} {told : Outcome}
 reported {front} {old} t v c = record { outcome = t ∙ ap reportOf v; content = c ∙ ap (λ w. after w front old) v }
 
 -- a tally's promise
+-- the extremes of an accepted tally, by whether a pixel is lit
+module _ (s : List ℕ) (n : ℕ) (lit : n ≡ litCount (stripPixels s)) where
+  abbrev ys : List Stored
+  ys = luminancesOf (stripPixels s)
+
+  counted : length ys ≡ n
+  counted = lit-count (stripPixels s) ∙ sym lit
+
+  occurs : (y : Stored) (xs : List Stored) → Occurs y xs → 0 < length xs
+  occurs y [] h = absurd h
+  occurs y (x ∷ xs) h = omega arith
+
+  told : (e : Extremes) → HasExtremes e ys → 0 < n
+      → AreExtremes (record { exponent = natAbs (getD (extremesValues e) 0 (pos 0)); mantissa = natAbs (getD (extremesValues e) 1 (pos 0)) })
+      (record { exponent = natAbs (getD (extremesValues e) 2 (pos 0)); mantissa = natAbs (getD (extremesValues e) 3 (pos 0)) }) ys
+  told Extremes.Absent h some = absurd (omega (arith, h, some, counted))
+  told (Both d b) h some = h
+
+  free : (e : Extremes) → HasExtremes e ys → n ≡ 0
+      → (natAbs (getD (extremesValues e) 0 (pos 0)) ≡ 0) × (natAbs (getD (extremesValues e) 1 (pos 0)) ≡ 0)
+      × (natAbs (getD (extremesValues e) 2 (pos 0)) ≡ 0) × (natAbs (getD (extremesValues e) 3 (pos 0)) ≡ 0)
+  free Extremes.Absent h none = (refl, refl, refl, refl)
+  free (Both d b) h none = absurd (omega (arith, occurs d ys (h .darkest-occurs), none, counted))
+
 bounded : (s : List ℕ) (a : TallyOrRefusal) → TallyPromise s a → TallyBound s (tallyAnswer a)
-bounded s (Holds t Absent) p = record { count = λ _. p .0; flag = inl refl; absent = λ _ _. p .1; mean = λ e. absurd (omega (arith, e)) }
+bounded s (Holds t Absent) p =
+    record {
+      count = λ _. p .0;
+      flag = inl refl;
+      absent = λ _ _. p .2;
+      mean = λ e. absurd (omega (arith, e));
+      extremes = told s (t .count) (p .0) (t .extremes) (p .1);
+      none = free s (t .count) (p .0) (t .extremes) (p .1);
+    }
 bounded s (Holds t (Present A stored)) p =
-    record { count = λ _. p .0; flag = inr refl; absent = λ _ e. absurd (omega (arith, e)); mean = λ _. p .1 }
+    record {
+      count = λ _. p .0;
+      flag = inr refl;
+      absent = λ _ e. absurd (omega (arith, e));
+      mean = λ _. p .2;
+      extremes = told s (t .count) (p .0) (t .extremes) (p .1);
+      none = free s (t .count) (p .0) (t .extremes) (p .1);
+    }
 bounded s (Refuses r i) p =
     record {
       count = λ e. absurd (numbered r i e);
       flag = inl refl;
       absent = λ e _. absurd (numbered r i e);
       mean = λ e. absurd (omega (arith, e));
+      extremes = λ e. absurd (omega (arith, e));
+      none = λ _. (refl, refl, refl, refl);
     }
 
 pub answered : (s : List ℕ) (a : TallyOrRefusal) (r : TallyAnswer) → r ≡ tallyAnswer a

@@ -63,6 +63,10 @@ tallyAnswer a =
       average = signedAt t 3;
       exponent = valueAt t 4;
       mantissa = valueAt t 5;
+      «darkest_exponent» = valueAt t 6;
+      «darkest_mantissa» = valueAt t 7;
+      «brightest_exponent» = valueAt t 8;
+      «brightest_mantissa» = valueAt t 9;
     }
 
 -- a step of a page reader, or the strip's refusal

@@ -1,22 +1,34 @@
 -- Demand 3, in the numbers that cross to C. Assumes nothing.
-use Prim.Native.Nat.{ℕ}
+use Prim.Native.Nat.{ℕ, _<_}
 use mathlib.Core.Path.{_≡_}
 use mathlib.Core.Logic.{_⊎_}
 use mathlib.Core.List.{List}
 use Rattle.strip.specs.Reading.{stripPixels}
 use Rattle.refusal.specs.declared.Outcome.{Outcome}
 use Rattle.refusal.specs.declared.Verdict.the-variants.{Accepted}
-use Rattle.body.specs.Luminances.{litCount}
+use Rattle.number.specs.declared.ratio.Stored.{Stored}
+use Rattle.average.specs.Claims.{AreExtremes}
+use Rattle.body.specs.Luminances.{luminancesOf, litCount}
 use Rattle.page.specs.Claims.{MeanHalf, MapPromise}
 use Rattle.answers.specs.declared.tallies.TallyAnswer.{TallyAnswer}
 
+-- the extremes of a tally's answer
+abbrev pub darkestIn : TallyAnswer → Stored
+darkestIn r = record { exponent = r .«darkest_exponent»; mantissa = r .«darkest_mantissa» }
+
+abbrev pub brightestIn : TallyAnswer → Stored
+brightestIn r = record { exponent = r .«brightest_exponent»; mantissa = r .«brightest_mantissa» }
+
 -- N counts the lit pixels; an average is present or not, and absent only where no pixel is lit; the first half of demand 3 holds of a
--- present one
+-- present one; where a pixel is lit, the extremes are those of the lit pixels, and else, a refusal included, all their numbers are 0
 pub record TallyBound (s : List ℕ) (r : TallyAnswer) : Type 0 where
   pub count : r .number ≡ 0 → r .lit ≡ litCount (stripPixels s)
   pub flag : (r .present ≡ 0) ⊎ (r .present ≡ 1)
   pub absent : r .number ≡ 0 → r .present ≡ 0 → litCount (stripPixels s) ≡ 0
   pub mean : r .present ≡ 1 → MeanHalf (stripPixels s) (r .average)
+  pub extremes : 0 < r .lit → AreExtremes (darkestIn r) (brightestIn r) (luminancesOf (stripPixels s))
+  pub none : r .lit ≡ 0
+      → (r .«darkest_exponent» ≡ 0) × (r .«darkest_mantissa» ≡ 0) × (r .«brightest_exponent» ≡ 0) × (r .«brightest_mantissa» ≡ 0)
 
 -- the second half holds of the bytes that an accepted call leaves
 pub record MapBound (s : List ℕ) (r : Outcome) (bytes : List ℕ) : Type 0 where

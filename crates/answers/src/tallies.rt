@@ -1,11 +1,16 @@
 // The tally of a page.
 ghost use mathlib.Core.Path.{_≡_};
+ghost use lib.IntN.{pos, natAbs};
+ghost use lib.ListN.{getD};
+ghost use Rattle.average.specs.Tallies.{extremesValues};
 ghost use Rattle.answers.specs.Answers.{tallyAnswer};
 use average::average::Average;
+use average::tally::Extremes;
+use number::ratio::Stored;
 use page::tally::TallyOrRefusal;
 use refusal::outcome_of;
 
-// A tally with its average; what the page does not have is 0.
+// A tally with its average and its extremes; what the page does not have is 0.
 #[repr(C)]
 pub struct TallyAnswer {
     pub number: u64,
@@ -16,6 +21,38 @@ pub struct TallyAnswer {
     pub average: i64,
     pub exponent: u64,
     pub mantissa: u64,
+    pub darkest_exponent: u64,
+    pub darkest_mantissa: u64,
+    pub brightest_exponent: u64,
+    pub brightest_mantissa: u64,
+}
+
+// The darkest luminance, (0,0) where it is absent.
+fn darkest_of(extremes: Extremes) -> Stored
+    ensures exponent { λ r. ⌜ r .exponent ≡ natAbs (getD (extremesValues extremes) 0 (pos 0)) ⌝ }
+    ensures mantissa { λ r. ⌜ r .mantissa ≡ natAbs (getD (extremesValues extremes) 1 (pos 0)) ⌝ }
+{
+    match extremes {
+        Extremes::Absent => Stored {
+            exponent: 0,
+            mantissa: 0,
+        },
+        Extremes::Both(darkest, _) => darkest,
+    }
+}
+
+// The brightest luminance, likewise.
+fn brightest_of(extremes: Extremes) -> Stored
+    ensures exponent { λ r. ⌜ r .exponent ≡ natAbs (getD (extremesValues extremes) 2 (pos 0)) ⌝ }
+    ensures mantissa { λ r. ⌜ r .mantissa ≡ natAbs (getD (extremesValues extremes) 3 (pos 0)) ⌝ }
+{
+    match extremes {
+        Extremes::Absent => Stored {
+            exponent: 0,
+            mantissa: 0,
+        },
+        Extremes::Both(_, brightest) => brightest,
+    }
 }
 
 // A strip's tally with its average or its refusal, in numbers.
@@ -23,27 +60,40 @@ pub fn tally_answer(answer: TallyOrRefusal) -> TallyAnswer
     ensures { λ r. ⌜ r ≡ tallyAnswer answer ⌝ }
 {
     match answer {
-        TallyOrRefusal::Holds(tally, average) => match average {
-            Average::Absent => TallyAnswer {
-                number: 0,
-                place: 0,
-                lit: tally.count,
-                sum: tally.sum,
-                present: 0,
-                average: 0,
-                exponent: 0,
-                mantissa: 0,
-            },
-            Average::Present(steps, stored) => TallyAnswer {
-                number: 0,
-                place: 0,
-                lit: tally.count,
-                sum: tally.sum,
-                present: 1,
-                average: steps,
-                exponent: stored.exponent as u64,
-                mantissa: stored.mantissa as u64,
-            },
+        TallyOrRefusal::Holds(tally, average) => {
+            let extremes = tally.extremes;
+            let darkest = darkest_of(extremes);
+            let brightest = brightest_of(extremes);
+            match average {
+                Average::Absent => TallyAnswer {
+                    number: 0,
+                    place: 0,
+                    lit: tally.count,
+                    sum: tally.sum,
+                    present: 0,
+                    average: 0,
+                    exponent: 0,
+                    mantissa: 0,
+                    darkest_exponent: darkest.exponent as u64,
+                    darkest_mantissa: darkest.mantissa as u64,
+                    brightest_exponent: brightest.exponent as u64,
+                    brightest_mantissa: brightest.mantissa as u64,
+                },
+                Average::Present(steps, stored) => TallyAnswer {
+                    number: 0,
+                    place: 0,
+                    lit: tally.count,
+                    sum: tally.sum,
+                    present: 1,
+                    average: steps,
+                    exponent: stored.exponent as u64,
+                    mantissa: stored.mantissa as u64,
+                    darkest_exponent: darkest.exponent as u64,
+                    darkest_mantissa: darkest.mantissa as u64,
+                    brightest_exponent: brightest.exponent as u64,
+                    brightest_mantissa: brightest.mantissa as u64,
+                },
+            }
         },
         TallyOrRefusal::Refuses(refusal, index) => {
             let outcome = outcome_of(refusal, index);
@@ -56,6 +106,10 @@ pub fn tally_answer(answer: TallyOrRefusal) -> TallyAnswer
                 average: 0,
                 exponent: 0,
                 mantissa: 0,
+                darkest_exponent: 0,
+                darkest_mantissa: 0,
+                brightest_exponent: 0,
+                brightest_mantissa: 0,
             }
         },
     }

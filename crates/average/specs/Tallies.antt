@@ -34,6 +34,11 @@ unfoldable pub extremesOf : List Stored → Extremes
 extremesOf [] = Absent
 extremesOf (y ∷ ys) = widest (Both y y) (extremesOf ys)
 
+-- in numbers: E and M of the darkest, then of the brightest; all are 0 where they are absent
+abbrev pub extremesValues : Extremes → List ℤ
+extremesValues Absent = pos 0 ∷ pos 0 ∷ pos 0 ∷ pos 0 ∷ []
+extremesValues (Both d b) = pos (d .exponent) ∷ pos (d .mantissa) ∷ pos (b .exponent) ∷ pos (b .mantissa) ∷ []
+
 -- N, "the sum of steps (0 if N = 0)" and the extremes; A and the stored average follow from N and the sum by `averageOf`
 abbrev pub tallyOf : List Stored → Tally
 tallyOf ys = record { count = length ys; sum = sumOf ys; extremes = extremesOf ys }

@@ -37,7 +37,7 @@ use Rattle.page.specs.Checks.{checkTally, checkMap}
 use Rattle.page.specs.Mapping.{stripLevels}
 use Rattle.page.specs.Claims.{MeanHalf, EachThree, LitBound, LevelHalf, BoundsReported, DemandThree}
 use Rattle.page.specs.Claims.{WhereLit, TallyPromise, MapPromise}
-use Rattle.average.proofs.Laws.{reported, absent, mean-bound}
+use Rattle.average.proofs.Laws.{reported, absent, extremes-hold, mean-bound}
 use Rattle.page.proofs.Checks.{tally-whole, map-tally}
 use Rattle.page.proofs.Strips.{strip-valid, strip-tone}
 
@@ -104,7 +104,7 @@ tally-bound s = by (checkTally s) refl
   where
     by : (v : Verdict) → checkTally s ≡ v → TallyPromise s (tallyUnder v (tallyOf (stripLuminances s)))
     by Accepted e =
-        (lit-count (stripPixels s), where-lit s (tally-whole s e) (MeanHalf (stripPixels s)) (λ A q. mean-half s (tally-whole s e) q))
+        (lit-count (stripPixels s), extremes-hold (stripLuminances s), where-lit s (tally-whole s e) (MeanHalf (stripPixels s)) (λ A q. mean-half s (tally-whole s e) q))
     by (Refused r i) e = tt
 
 pub bounded : (s : List ℕ) {r : TallyOrRefusal} → r ≡ tallyStrip s
@@ -132,12 +132,12 @@ filled s old new e f = also-with reportOf e (f, rw f (map-bound s old (map-tally
 module _ (s bytes : List ℕ) (ok : checkTally s ≡ Accepted) (lit : 0 < litCount (stripPixels s)) where
   joined : (a : Average) → stripAverage s ≡ a → TallyPromise s (Holds (tallyOf (stripLuminances s)) a)
       → WhereLit (stripPixels s) a (λ A. LevelHalf (headerFields s) (stripPixels s) A bytes) → BoundsReported s bytes
-  joined Absent e mean levels = absurd (omega (arith, lit, mean .1))
+  joined Absent e mean levels = absurd (omega (arith, lit, mean .2))
   joined (Present A average) e mean levels =
       record {
         A = A;
         reported = sym (answered s ok refl (rw (reported _ _ e .stored) (sym e)));
-        bounds = record { mean = mean .1; levels = levels };
+        bounds = record { mean = mean .2; levels = levels };
       }
 
 pub demand-three : DemandThree

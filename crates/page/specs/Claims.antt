@@ -25,7 +25,7 @@ use Rattle.page.specs.declared.tally.TallyOrRefusal.the-variants.{Holds,
 use Rattle.body.specs.Luminances.{luminancesOf, litCount}
 use Rattle.page.specs.Checks.{checkMap}
 use Rattle.page.specs.Tallying.{stripLuminances, stripAverage, tallyStrip}
-use Rattle.average.specs.Claims.{MeanBound}
+use Rattle.average.specs.Claims.{HasExtremes, MeanBound}
 use Rattle.page.specs.Mapping.{toneOf, stripLevels}
 
 -- ---- the two halves
@@ -64,10 +64,11 @@ abbrev pub WhereLit : List Pixel → Average → (Half : ℤ → Type 0) → Typ
 WhereLit ps Absent Half = litCount ps ≡ 0
 WhereLit ps (Present A average) Half = Half A
 
--- "the first half holds wherever the tally accepts, the second wherever mapping does"
+-- "the first half holds wherever the tally accepts, the second wherever mapping does"; the extremes are those of the page's lit pixels
 abbrev pub TallyPromise : (s : List ℕ) → TallyOrRefusal → Type 0
 TallyPromise s (Holds t average) =
-    (t .count ≡ litCount (stripPixels s)) × WhereLit (stripPixels s) average (MeanHalf (stripPixels s))
+    (t .count ≡ litCount (stripPixels s)) × HasExtremes (t .extremes) (luminancesOf (stripPixels s))
+    × WhereLit (stripPixels s) average (MeanHalf (stripPixels s))
 TallyPromise s (Refuses r i) = Unit
 
 abbrev pub MapPromise : (s : List ℕ) → Verdict → (bytes : List ℕ) → Type 0

@@ -1,7 +1,7 @@
 -- The tally of a page. Assumes nothing.
 -- "A tally of a strip gives N, the sum of steps (0 if N = 0), A and the stored average"
 use Prim.Native.Nat.{ℕ}
-use mathlib.Core.List.{List, _∷_}
+use mathlib.Core.List.{List, _∷_, _++_}
 use lib.IntN.{pos}
 use Rattle.number.specs.declared.ratio.Stored.{Stored}
 use Rattle.refusal.specs.declared.Verdict.{Verdict}
@@ -11,7 +11,7 @@ use Rattle.strip.specs.Reading.{stripPixels}
 use Rattle.average.specs.declared.average.Average.{Average}
 use Rattle.average.specs.declared.tally.Tally.{Tally}
 use Rattle.average.specs.Averages.{averageOf, averageValues}
-use Rattle.average.specs.Tallies.{tallyOf}
+use Rattle.average.specs.Tallies.{tallyOf, extremesValues}
 use Rattle.body.specs.Luminances.{luminancesOf}
 use Rattle.page.specs.Checks.{checkTally}
 use Rattle.page.specs.declared.tally.TallyOrRefusal.{TallyOrRefusal}
@@ -30,9 +30,9 @@ abbrev pub tallyUnder : Verdict → Tally → TallyOrRefusal
 tallyUnder Accepted t = Holds t (averageOfTally t)
 tallyUnder (Refused r i) t = Refuses r i
 
--- in numbers: N, the sum of steps, and the average's numbers behind them; or the refusal
+-- in numbers: N, the sum of steps, and the average's and the extremes' numbers behind them; or the refusal
 abbrev pub tallyTold : TallyOrRefusal → Told
-tallyTold (Holds t average) = holding (pos (t .count) ∷ t .sum ∷ averageValues average)
+tallyTold (Holds t average) = holding (pos (t .count) ∷ t .sum ∷ averageValues average ++ extremesValues (t .extremes))
 tallyTold (Refuses r i) = refusing r i
 
 -- what a tally answers: of a refused strip its refusal

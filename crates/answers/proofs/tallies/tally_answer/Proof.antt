@@ -10,22 +10,31 @@ use Rattle.answers.proofs.tallies.tally_answer.Tie as tie
 
 returns : tie.Need-returns
 returns c =
-    let t = c .before .before .before .before in
+    let a = c .before .before .before .before .before in
+    let b = a .before .before in
+    let d = b .before in
+    let t = d .before .before in
     let tally = t .answer .given .0 .0 in
     let held : toZ w64 (ofZ w64 (tally .sum)) ≡ tally .sum = search needs in
-    let absent = ap (λ a. tallyAnswer (Holds tally a)) (sym (c .before .enum-told .given .1)) in
-    rw held (absent ∙ ap tallyAnswer (sym (t .answer .given .1)))
+    let absent = ap (λ x. tallyAnswer (Holds tally x)) (sym (a .enum-told .given .1)) in
+    rw (held, d .darkest-of .ensures .0, d .darkest-of .ensures .1, b .brightest-of .ensures .0, b .brightest-of .ensures .1)
+    (absent ∙ ap tallyAnswer (sym (t .answer .given .1)))
+
+steps-held : (k : tie.After-known-told2) → toZ w64 (ofZ w64 (k .before .average .given .0 .0)) ≡ k .before .average .given .0 .0
+steps-held k = search needs
 
 returns-2 : tie.Need-returns-2
 returns-2 c =
-    let v = c .before .before .before .before in
-    let t = v .before .before .before in
+    let k = c .before .before .before .before .before .before .before in
+    let v = k .before in
+    let b = v .before .before in
+    let d = b .before in
+    let t = d .before .before in
     let tally = t .answer .given .0 .0 in
-    let steps = v .average .given .0 .0 in
     let held : toZ w64 (ofZ w64 (tally .sum)) ≡ tally .sum = search needs in
-    let held′ : toZ w64 (ofZ w64 steps) ≡ steps = search needs in
-    let present = ap (λ a. tallyAnswer (Holds tally a)) (sym (v .average .given .1)) in
-    rw (held, held′) (present ∙ ap tallyAnswer (sym (t .answer .given .1)))
+    let present = ap (λ x. tallyAnswer (Holds tally x)) (sym (v .average .given .1)) in
+    rw (held, steps-held k, d .darkest-of .ensures .0, d .darkest-of .ensures .1, b .brightest-of .ensures .0, b .brightest-of .ensures .1)
+    (present ∙ ap tallyAnswer (sym (t .answer .given .1)))
 
 returns-3 : tie.Need-returns-3
 returns-3 c = simp (c .outcome-of .ensures, c .before .before .answer2 .given .1)
@@ -34,5 +43,6 @@ pub tally-answer-spec : {M : Type 1} → statement M
 tally-answer-spec =
     tie.close
     (tie.spec
-    (λ c. search needs) (λ c. search needs) (λ c. search needs) (λ c. search needs) (λ c. search needs)
-    (λ c. search needs) (λ c κs. search needs) returns returns-2 returns-3)
+    (λ c. search needs) (λ c κs. search needs) (λ c κs. search needs) (λ c. search needs) (λ c. search needs) (λ c. search needs)
+    (λ c. search needs) (λ c. search needs) (λ c. search needs) (λ c. search needs) (λ c. search needs) (λ c. search needs)
+    (λ c. search needs) (λ c. search needs) (λ c. search needs) (λ c. search needs) (λ c κs. search needs) returns returns-2 returns-3)
