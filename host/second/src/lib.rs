@@ -13,15 +13,16 @@ mod tone;
 pub mod whole;
 
 pub use nearness::LevelDistances;
+pub use number::Number;
 pub use refusal::Refusal;
 pub use sources::Source;
 pub use strip::Header;
-pub use tone::{Average, Tally};
+pub use tone::{Average, Extremes, Tally};
 
 use refusal::{require, DARK_PAGE};
 use std::ops::Range;
 
-/// Which of the later changes hold.
+/// Which of the later changes hold; 2026-01, darkest and brightest in the tally, always does.
 #[derive(Clone, Copy, Debug)]
 pub struct Rules {
     /// 2026-03: a page is refused when sixteen times its lit pixels is below its pixel count.
@@ -35,7 +36,7 @@ pub struct Rules {
 }
 
 impl Rules {
-    /// Document 01 without any change.
+    /// Document 01 with 2026-01 and no other change.
     pub const BASE: Rules = Rules {
         dark_page: false,
         white_word: false,

@@ -1,6 +1,7 @@
 //! "A stored number": exponent E and mantissa M, worth (M + 1/2) · 2^(E−136), and the rule of storing.
 
 use crate::fixed::Fixed;
+use std::cmp::Ordering;
 
 /// Wide enough for both sides of every fraction of the steps; the longest one is that of the display
 /// luminance under a white point, some 300 bits.
@@ -75,7 +76,7 @@ pub struct Number {
 impl Number {
     /// "E is the only whole number with 2^(E−129) < F ≤ 2^(E−128); M is F · 2^(136−E) rounded down,
     /// and 255 where that gives 256."
-    pub fn store(value: Fraction) -> Number {
+    pub(crate) fn store(value: Fraction) -> Number {
         // With n digits above and d below, 2^(n−d−1) < F < 2^(n−d+1): E−128 is n−d or n−d+1.
         let guess = value.numerator.bit_length() as i32 - value.denominator.bit_length() as i32;
         let scaled = value.times_power_of_two(-guess);
@@ -90,6 +91,14 @@ impl Number {
     /// 2M + 1: the worth is this times 2^(E−137).
     pub fn significand(&self) -> u64 {
         2 * self.mantissa as u64 + 1
+    }
+
+    /// "compared by worth": the quotient of the two worths, (2M+1)/(2m+1) · 2^(E−e), against 1. Exponents of
+    /// luminances differ by at most 184 − 67, so that its sides have at most 9 + 117 digits.
+    pub(crate) fn by_worth(&self, other: &Number) -> Ordering {
+        let power = self.exponent - other.exponent;
+        let quotient = Fraction::new(self.significand(), other.significand(), power);
+        quotient.numerator.cmp(&quotient.denominator)
     }
 
     /// The worth; for printing only.
@@ -203,6 +212,22 @@ mod tests {
         for mantissa in 128..=255 {
             let number = Number { exponent: 150, mantissa };
             assert_eq!(Number::store(Fraction::new(number.significand(), 1, 150 - 137)), number);
+        }
+    }
+
+    /// Worths against each other as whole numbers in units of 2^(67−137).
+    #[test]
+    fn comparing() {
+        let mut numbers = Vec::new();
+        for exponent in [67, 68, 69, 127, 128, 183, 184] {
+            numbers.extend([128, 129, 191, 192, 254, 255].map(|mantissa| Number { exponent, mantissa }));
+        }
+        let worth = |number: &Number| Whole::from(number.significand()).shifted_left(number.exponent as usize - 67);
+        for left in &numbers {
+            for right in &numbers {
+                assert_eq!(left.by_worth(right), worth(left).cmp(&worth(right)));
+                assert_eq!(left.by_worth(right).is_eq(), left == right);
+            }
         }
     }
 

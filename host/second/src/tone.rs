@@ -14,12 +14,43 @@ pub struct Average {
     pub mantissa: u8,
 }
 
-/// N, the sum of steps, and the average, absent if N = 0.
+/// "the smallest and the largest stored luminance among lit pixels, compared by worth"; "the invariant of the record
+/// is that both occur on the page."
+#[derive(Clone, Copy, Debug, PartialEq, Eq)]
+pub struct Extremes {
+    pub darkest: Number,
+    pub brightest: Number,
+}
+
+impl Extremes {
+    /// Those of the lit pixels so far, if there was one, and of one more. Numbers of equal worth are the same number,
+    /// as 2M + 1 is odd.
+    fn with(before: Option<Extremes>, luminance: Number) -> Extremes {
+        let Some(Extremes { darkest, brightest }) = before else {
+            return Extremes {
+                darkest: luminance,
+                brightest: luminance,
+            };
+        };
+        Extremes {
+            darkest: if luminance.by_worth(&darkest).is_lt() { luminance } else { darkest },
+            brightest: if luminance.by_worth(&brightest).is_gt() {
+                luminance
+            } else {
+                brightest
+            },
+        }
+    }
+}
+
+/// N, the sum of steps, the average, absent if N = 0, and the darkest and brightest of change 2026-01: "On a page with no
+/// lit pixel both are absent."
 #[derive(Clone, Copy, Debug, PartialEq, Eq)]
 pub struct Tally {
     pub lit: u64,
     pub sum: i64,
     pub average: Option<Average>,
+    pub extremes: Option<Extremes>,
 }
 
 /// "A pixel is lit if any of its three channel words is".
@@ -51,15 +82,21 @@ fn steps(luminance: Number, steps_table: &[i64]) -> i64 {
     256 * (luminance.exponent as i64 - 136) + steps_table[luminance.mantissa as usize - 128]
 }
 
-/// Steps 2 and 3 over a page.
+/// Steps 2 and 3 over a page, with its darkest and brightest.
 pub fn tally(pixels: impl Iterator<Item = Pixel>, steps_table: &[i64], mantissa_table: &[u8]) -> Tally {
-    let (mut lit, mut sum) = (0, 0);
+    let (mut lit, mut sum, mut extremes) = (0, 0, None);
     for luminance in pixels.filter_map(|pixel| luminance(&pixel)) {
         lit += 1;
         sum += steps(luminance, steps_table);
+        extremes = Some(Extremes::with(extremes, luminance));
     }
     let average = if lit == 0 { None } else { Some(average(sum, lit, mantissa_table)) };
-    Tally { lit, sum, average }
+    Tally {
+        lit,
+        sum,
+        average,
+        extremes,
+    }
 }
 
 /// Step 3: "the sum of steps over the N lit pixels, divided by N, rounded toward minus infinity. Write A = 256q + f,

@@ -121,12 +121,13 @@ fn mantissa_table() {
         Ok(Tally {
             lit: 2,
             sum: 3840,
-            average
+            average,
+            extremes: dark_and_bright((136, 128), (136, 255))
         })
     );
 }
 
-/// 1793 + 2047 − 256 = 2 · 1792, and 1792 = 7 · 256 + 0: (q+128, 255).
+/// 1793 + 2047 − 256 = 2 · 1792, and 1792 = 7 · 256 + 0: (q+128, 255). The worths are 128.5 and 127.75.
 #[test]
 fn average_without_rest() {
     let strip = stored_strip(&base(), &grey(&[stored(136, 128), stored(135, 255)]), 180, None);
@@ -140,7 +141,8 @@ fn average_without_rest() {
         Ok(Tally {
             lit: 2,
             sum: 3584,
-            average
+            average,
+            extremes: dark_and_bright((135, 255), (136, 128))
         })
     );
 }
@@ -153,7 +155,15 @@ fn one_grey() {
         exponent: 128,
         mantissa: 255,
     });
-    assert_eq!(base().tally(&strip), Ok(Tally { lit: 1, sum: -1, average }));
+    assert_eq!(
+        base().tally(&strip),
+        Ok(Tally {
+            lit: 1,
+            sum: -1,
+            average,
+            extremes: dark_and_bright((128, 255), (128, 255))
+        })
+    );
     assert_eq!(levels(&base(), &strip), [39; 3]);
 }
 
@@ -170,7 +180,8 @@ fn two_greys() {
         Ok(Tally {
             lit: 2,
             sum: -258,
-            average
+            average,
+            extremes: dark_and_bright((127, 255), (128, 255))
         })
     );
     assert_eq!(levels(&base(), &strip), [52, 52, 52, 29, 29, 29]);
@@ -233,7 +244,8 @@ fn unlit_page() {
         Ok(Tally {
             lit: 0,
             sum: 0,
-            average: None
+            average: None,
+            extremes: None
         })
     );
     assert_eq!(levels(&base(), &strip), [0; 6]);

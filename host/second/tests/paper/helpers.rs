@@ -1,6 +1,6 @@
 //! Pages, strips and generated numbers for the tests.
 
-use second::{Header, Refusal, Rules, SecondStep, Source};
+use second::{Extremes, Header, Number, Refusal, Rules, SecondStep, Source};
 
 pub const BLACK: u16 = 0;
 /// The half 1.0 and the half 0.5.
@@ -25,6 +25,19 @@ pub fn header(width: u64, height: u64, key: u64) -> Header {
 /// The channel (E, M) as 16 bits.
 pub fn stored(exponent: u16, mantissa: u16) -> u16 {
     256 * exponent + mantissa
+}
+
+/// The luminance (E, M).
+pub fn number(exponent: i32, mantissa: u32) -> Number {
+    Number { exponent, mantissa }
+}
+
+/// The darkest and the brightest as (E, M).
+pub fn dark_and_bright(darkest: (i32, u32), brightest: (i32, u32)) -> Option<Extremes> {
+    Some(Extremes {
+        darkest: number(darkest.0, darkest.1),
+        brightest: number(brightest.0, brightest.1),
+    })
 }
 
 pub fn refused<T>(number: u64, place: u64) -> Result<T, Refusal> {

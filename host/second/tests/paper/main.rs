@@ -2,6 +2,7 @@
 
 mod changes;
 mod examples;
+mod extremes;
 mod helpers;
 mod nearness;
 mod refusals;
