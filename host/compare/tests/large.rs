@@ -136,16 +136,10 @@ fn a_page_of_all_pixels() {
         first_failure,
     } = library.distances;
     assert_eq!((first_failure, compared), (None, 3 * library.tally.lit));
-    let Tally { lit, average, .. } = library.tally;
-    let Tally {
-        darkest_exponent,
-        darkest_mantissa,
-        brightest_exponent,
-        brightest_mantissa,
-        ..
-    } = library.tally;
-    assert_eq!((darkest_exponent, darkest_mantissa), (67, 246));
-    assert_eq!((brightest_exponent, brightest_mantissa), (184, 255));
+    let tally = library.tally;
+    assert_eq!((tally.darkest_exponent, tally.darkest_mantissa), (67, 246));
+    assert_eq!((tally.brightest_exponent, tally.brightest_mantissa), (184, 255));
+    let Tally { lit, average, .. } = tally;
     let pixels = WIDTH * HEIGHT;
     println!("large page, seed {SEED}: {pixels} pixels, {lit} lit, average {average}, {compared} levels within {worst:.4}");
 }
