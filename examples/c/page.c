@@ -33,6 +33,8 @@ int main(void)
         return refused("tally", tally.number, tally.place);
     printf("lit %" PRIu64 ", average %" PRId64 " steps, stored as (%" PRIu64 ",%" PRIu64 ")\n", tally.lit, tally.average, tally.exponent,
            tally.mantissa);
+    printf("luminances from (%" PRIu64 ",%" PRIu64 ") to (%" PRIu64 ",%" PRIu64 ")\n", tally.darkest_exponent, tally.darkest_mantissa,
+           tally.brightest_exponent, tally.brightest_mantissa);
 
     uint8_t levels[3 * PIXELS];
     dofnihet_outcome mapped = dofnihet_map(strip, words, levels, sizeof levels);

@@ -77,8 +77,10 @@ static void print_step(const char *call, dofnihet_step told)
 
 static void print_tally(const char *call, dofnihet_tally told)
 {
-    printf("%s: %" PRIu64 " %" PRIu64 " %" PRIu64 " %" PRId64 " %" PRIu64 " %" PRId64 " %" PRIu64 " %" PRIu64 "\n", call, told.number,
+    printf("%s: %" PRIu64 " %" PRIu64 " %" PRIu64 " %" PRId64 " %" PRIu64 " %" PRId64 " %" PRIu64 " %" PRIu64, call, told.number,
            told.place, told.lit, told.sum, told.present, told.average, told.exponent, told.mantissa);
+    printf(" %" PRIu64 " %" PRIu64 " %" PRIu64 " %" PRIu64 "\n", told.darkest_exponent, told.darkest_mantissa, told.brightest_exponent,
+           told.brightest_mantissa);
 }
 
 /* Greys 1.0 and 0.5, 2 x 1. */
@@ -87,6 +89,10 @@ static const uint32_t greys[] = {0x10008001, 0x200000B4, 0x400080FF, 0x500080FF,
 /* The same with a mantissa of 127 in its last channel. */
 static const uint32_t wild[] = {0x10008001, 0x200000B4, 0x400080FF, 0x500080FF, 0x600080FF,
                                 0x40007FFF, 0x50007FFF, 0x60007F7F, 0x70000002};
+/* Greys (129,128) and (127,255): the brighter one has the smaller mantissa. Their steps are T[128] - 1792 = 1 and T[255] - 2304 = -257,
+ * so the average is -128 = 256 * -1 + 128, stored as (128, X[128]). */
+static const uint32_t crossed[] = {0x10008001, 0x200000B4, 0x40008180, 0x50008180, 0x60008180,
+                                   0x40007FFF, 0x50007FFF, 0x60007FFF, 0x70000002};
 /* One pixel of three different channels. */
 static const uint32_t coloured[] = {0x10004001, 0x200000B4, 0x400080FF, 0x50007FFF, 0x60000000, 0x70000001};
 static const uint32_t black[] = {0x10004001, 0x200000B4, 0x40000000, 0x50000000, 0x60000000, 0x70000001};
@@ -110,6 +116,7 @@ static void readings(void)
     print_step("step 0 wild", dofnihet_step_of(wild, COUNT(wild), 0));
     print_step("last step wild", dofnihet_step_of(wild, COUNT(wild), UINT64_MAX));
     print_tally("tally", dofnihet_tally_of(greys, COUNT(greys)));
+    print_tally("tally crossed", dofnihet_tally_of(crossed, COUNT(crossed)));
     print_tally("tally black", dofnihet_tally_of(black, COUNT(black)));
     print_tally("tally wild", dofnihet_tally_of(wild, COUNT(wild)));
 }

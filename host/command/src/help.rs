@@ -45,15 +45,32 @@ either kind.
 pub const TALLY: &str = "\
 dofnihet tally STRIP
 
-Prints the number of lit pixels, the sum of their steps, the average in steps, 256 to a power of two, and the average as stored
-exponent and mantissa:
+Prints what the lit pixels of a page are like:
 
     lit 2
     sum -258
     average -129
-    stored 128 180
+    stored 128 180 worth 0.7051
+    darkest 127 255 worth 0.4990
+    brightest 128 255 worth 0.9980
+    range 1.0 doublings
 
-Where no pixel is lit, the third line is 'average absent' and the last.
+    lit          the number of lit pixels
+    sum          the sum of the steps of their luminances, 256 to a doubling
+    average      the average in steps
+    stored       the average as stored number: exponent E, mantissa M and worth
+    darkest      the smallest luminance of a lit pixel, likewise
+    brightest    the largest one
+    range        the doublings from darkest to brightest, told by their steps
+
+A stored number is worth (M + 1/2) * 2^(E - 136), which is printed with four significant digits. Where no pixel is lit, the lines
+are 'lit 0', 'sum 0', 'average absent', 'darkest absent' and 'brightest absent'.
+
+To choose a key: a grey as bright as the average is scaled to K/1000 and comes out at about level 255 * K / (1000 + K), which is 39
+for 180. Darkest and brightest tell how many doublings below and above the average the page goes; a doubling is twice the worth.
+Far below the average each doubling down about halves the level, so details in deep shadows need a higher key, such as 360 or 720.
+Far above it the levels crowd towards 255, so a page whose interest lies there, such as lamps at night, needs a lower one, such
+as 90.
 ";
 
 pub const MAP: &str = "\

@@ -12,6 +12,8 @@ mod help;
 mod pfm;
 mod source;
 mod strip;
+mod tally;
+mod worth;
 
 use arguments::{Command, Picture};
 use failure::Failure;
@@ -62,11 +64,7 @@ fn convert(picture: Picture, key: u64, source: &OsStr, strip: &OsStr) -> Result<
 
 fn tally(strip: &OsStr) -> Result<(), Failure> {
     let tally = dofnihet::tally(&strip::read(strip)?)?;
-    let average = match tally.average {
-        Some(average) => format!("average {}\nstored {} {}\n", average.steps, average.exponent, average.mantissa),
-        None => "average absent\n".to_string(),
-    };
-    print(&format!("lit {}\nsum {}\n{average}", tally.lit, tally.sum))
+    print(&tally::text(&tally)?)
 }
 
 fn map(strip: &OsStr, picture: &OsStr) -> Result<(), Failure> {

@@ -111,6 +111,17 @@ pub const STRIP: [u32; 9] = [
     0x10008001, 0x200000B4, 0x400080FF, 0x500080FF, 0x600080FF, 0x40007FFF, 0x50007FFF, 0x60007FFF, 0x70000002,
 ];
 
+/// Its tally. The worths are 180.5 / 256, 255.5 / 512 and 255.5 / 256.
+pub const TALLY: &str = "\
+lit 2
+sum -258
+average -129
+stored 128 180 worth 0.7051
+darkest 127 255 worth 0.4990
+brightest 128 255 worth 0.9980
+range 1.0 doublings
+";
+
 /// A folder of one test.
 pub struct Folder(PathBuf);
 

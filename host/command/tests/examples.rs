@@ -1,6 +1,6 @@
 //! Document 01's worked examples, through the command line.
 
-use crate::common::{accepted, bytes16, bytes32, convert, greys, strip, text, words, STRIP};
+use crate::common::{accepted, bytes16, bytes32, convert, greys, strip, text, words, STRIP, TALLY};
 
 /// The channel of one grey pixel: exponent and mantissa, (0, 0) for black.
 fn channel(kind: &str, source: &[u8]) -> (u32, u32) {
@@ -66,17 +66,29 @@ fn page(key: u32, halves: &[u8]) -> (String, Vec<u8>) {
     (text(&["tally", "-"], &strip), picture[front.len()..].to_vec())
 }
 
+/// The tally of a page of stored channels in one row.
+fn stored_tally(pixels: &[[u16; 3]]) -> String {
+    let strip = strip("stored", pixels.len() as u32, 1, 180, &bytes16(&pixels.concat()));
+    text(&["tally", "-"], &bytes32(&strip))
+}
+
+/// The lines of a page whose lit pixels have one luminance, which is the stored average too.
+fn one_luminance(stored: &str) -> String {
+    format!("stored {stored}\ndarkest {stored}\nbrightest {stored}\nrange 0.0 doublings\n")
+}
+
 #[test]
 fn one_grey() {
     let (tally, levels) = page(180, &greys(&[0x3C00]));
-    assert_eq!(tally, "lit 1\nsum -1\naverage -1\nstored 128 255\n");
+    let luminance = one_luminance("128 255 worth 0.9980");
+    assert_eq!(tally, format!("lit 1\nsum -1\naverage -1\n{luminance}"));
     assert_eq!(levels, [39; 3]);
 }
 
 #[test]
 fn two_greys() {
     let (tally, levels) = page(180, &greys(&[0x3C00, 0x3800]));
-    assert_eq!(tally, "lit 2\nsum -258\naverage -129\nstored 128 180\n");
+    assert_eq!(tally, TALLY);
     assert_eq!(levels, [52, 52, 52, 29, 29, 29]);
 }
 
@@ -86,26 +98,50 @@ fn an_average_rounds_toward_minus_infinity() {
     assert_eq!(tally.lines().nth(2), Some("average -87"));
 }
 
+/// 4095 is 256 · 15 + 255, and X[255] is 255; (144,255) is worth 255.5 · 256 = 65408.
 #[test]
 fn a_black_pixel_does_not_count() {
     let (tally, levels) = page(180, &greys(&[0x7BFF, 0]));
-    assert_eq!(tally.lines().nth(2), Some("average 4095"));
+    let luminance = one_luminance("144 255 worth 65410");
+    assert_eq!(tally, format!("lit 1\nsum 4095\naverage 4095\n{luminance}"));
     assert_eq!(levels, [39, 39, 39, 0, 0, 0]);
 }
 
+/// 137.5 / 512 is 0.2685...
 #[test]
 fn red_alone() {
     let red = bytes16(&[0x3C00, 0, 0]);
     assert_eq!(page(180, &red).1, [145, 0, 0]);
     assert_eq!(page(1000, &red).1, [255, 0, 0]);
-    assert!(page(180, &red).0.ends_with("stored 127 137\n"));
+    assert!(page(180, &red).0.ends_with(&one_luminance("127 137 worth 0.2686")));
 }
 
 #[test]
 fn a_page_without_light() {
     let (tally, levels) = page(180, &greys(&[0, 0x8000]));
-    assert_eq!(tally, "lit 0\nsum 0\naverage absent\n");
+    assert_eq!(tally, "lit 0\nsum 0\naverage absent\ndarkest absent\nbrightest absent\n");
     assert_eq!(levels, [0; 6]);
+}
+
+/// Greys (129,128) and (127,255) among black pixels: the brighter one has the smaller mantissa. Their steps are 1793 - 1792 and
+/// 2047 - 2304, which are 258 apart; the average is 256 · -1 + 128, and X[128] is 181.
+#[test]
+fn darkest_and_brightest_by_worth() {
+    let (dark, bright) = ([256 * 127 + 255; 3], [256 * 129 + 128; 3]);
+    let wanted = "lit 2\nsum -256\naverage -128\nstored 128 181 worth 0.7090\ndarkest 127 255 worth 0.4990\n\
+                  brightest 129 128 worth 1.004\nrange 1.0 doublings\n";
+    assert_eq!(stored_tally(&[[0; 3], bright, [0; 3], dark]), wanted);
+    assert_eq!(stored_tally(&[dark, [0; 3], bright, [0; 3]]), wanted);
+}
+
+/// Blue at (72,128) alone has the least luminance: 6 / 100 · 128.5 / 2^64 is 246.72 / 2^69. The greatest is a grey at (184,255). T[246] is
+/// 2034, so their steps are 2034 - 17664 and 2047 + 12288, 29965 apart; the average, -1295 / 2 rounded down, is 256 · -3 + 120, and
+/// X[120] is 177.
+#[test]
+fn the_widest_range() {
+    let wanted = "lit 2\nsum -1295\naverage -648\nstored 126 177 worth 0.1733\ndarkest 67 246 worth 4.176e-19\n\
+                  brightest 184 255 worth 7.192e16\nrange 117.1 doublings\n";
+    assert_eq!(stored_tally(&[[256 * 184 + 255; 3], [0, 0, 256 * 72 + 128]]), wanted);
 }
 
 #[test]

@@ -1,6 +1,6 @@
 //! Wrong usage, and help.
 
-use crate::common::{text, wrong};
+use crate::common::{text, wrong, TALLY};
 
 #[test]
 fn wrong_usage() {
@@ -59,4 +59,6 @@ fn help() {
         assert_eq!(text(&[command, "-", "--key", "--help"], &[]), help);
     }
     assert!(text(&["convert", "--help"], &[]).contains("no float is multiplied by it"));
+    let example: String = TALLY.lines().map(|line| format!("    {line}\n")).collect();
+    assert!(text(&["tally", "--help"], &[]).contains(&format!("\n\n{example}\n")));
 }

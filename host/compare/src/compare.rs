@@ -295,11 +295,14 @@ pub fn raw_step(answer: &Result<Option<[u16; 3]>, Refusal>) -> Step {
     }
 }
 
-/// The eight fields of a tally; free fields are 0.
+/// The twelve fields of a tally; free fields are 0.
 pub fn raw_tally(answer: &Result<second::Tally, Refusal>) -> Tally {
     let (number, place) = told(answer);
     let (lit, sum) = answer.as_ref().map_or((0, 0), |t| (t.lit, t.sum));
     let average = answer.as_ref().ok().and_then(|t| t.average.as_ref());
+    let extremes = answer.as_ref().ok().and_then(|t| t.extremes.as_ref());
+    let (darkest_exponent, darkest_mantissa) = extremes.map_or((0, 0), |e| parts(e.darkest));
+    let (brightest_exponent, brightest_mantissa) = extremes.map_or((0, 0), |e| parts(e.brightest));
     Tally {
         number,
         place,
@@ -309,7 +312,16 @@ pub fn raw_tally(answer: &Result<second::Tally, Refusal>) -> Tally {
         average: average.map_or(0, |a| a.steps),
         exponent: average.map_or(0, |a| a.exponent as u64),
         mantissa: average.map_or(0, |a| a.mantissa as u64),
+        darkest_exponent,
+        darkest_mantissa,
+        brightest_exponent,
+        brightest_mantissa,
     }
+}
+
+/// Exponent and mantissa.
+fn parts(number: second::Number) -> (u64, u64) {
+    (number.exponent as u64, number.mantissa as u64)
 }
 
 pub fn second_source(source: Source) -> second::Source {

@@ -3,7 +3,7 @@
 use compare::compare::step_numbers;
 use compare::pages::{self, LOOKS};
 use compare::{damage, values, Calls, Elements, Library, Random};
-use dofnihet::{Average, Header, Refusal, Tally};
+use dofnihet::{Average, Extremes, Header, Refusal, Stored, Tally};
 
 const SEED: u64 = 1201;
 
@@ -11,6 +11,13 @@ fn refusal(number: u64, place: u64) -> Result<(), Refusal> {
     match number {
         0 => Ok(()),
         _ => Err(Refusal { number, place }),
+    }
+}
+
+fn stored(exponent: u64, mantissa: u64) -> Stored {
+    Stored {
+        exponent: exponent as u8,
+        mantissa: mantissa as u8,
     }
 }
 
@@ -45,10 +52,15 @@ fn same(strip: &[u32], y: u64) {
         exponent: tally.exponent as u8,
         mantissa: tally.mantissa as u8,
     };
+    let extremes = Extremes {
+        darkest: stored(tally.darkest_exponent, tally.darkest_mantissa),
+        brightest: stored(tally.brightest_exponent, tally.brightest_mantissa),
+    };
     let expected = Tally {
         lit: tally.lit,
         sum: tally.sum,
         average: if tally.present == 1 { Some(average) } else { None },
+        extremes: if tally.present == 1 { Some(extremes) } else { None },
     };
     assert_eq!(dofnihet::tally(strip), told.map(|_| expected));
     outputs(strip);

@@ -43,6 +43,15 @@ fn levels(strip: &[u32]) -> Vec<u8> {
     levels
 }
 
+/// Darkest and brightest.
+fn extremes(strip: &[u32]) -> [(u64, u64); 2] {
+    let tally = Library.tally(strip);
+    [
+        (tally.darkest_exponent, tally.darkest_mantissa),
+        (tally.brightest_exponent, tally.brightest_mantissa),
+    ]
+}
+
 fn greys(halves: &[u16]) -> Vec<u32> {
     strip(&Elements::Half(halves.iter().flat_map(|half| [*half; 3]).collect()), 180).unwrap()
 }
@@ -85,29 +94,49 @@ fn pages() {
     let one = greys(&[0x3C00]);
     let tally = Library.tally(&one);
     assert_eq!((tally.lit, tally.average, tally.exponent, tally.mantissa), (1, -1, 128, 255));
+    assert_eq!(extremes(&one), [(128, 255); 2]);
     assert_eq!(levels(&one), [39; 3]);
 
     let two = greys(&[0x3C00, 0x3800]);
     let tally = Library.tally(&two);
     assert_eq!((tally.lit, tally.average, tally.exponent, tally.mantissa), (2, -129, 128, 180));
+    assert_eq!(extremes(&two), [(127, 255), (128, 255)]);
     assert_eq!(levels(&two), [52, 52, 52, 29, 29, 29]);
 
     let three = greys(&[0x3C00, 0x3C00, 0x3800]);
     assert_eq!(Library.tally(&three).average, -87);
+    assert_eq!(extremes(&three), [(127, 255), (128, 255)]);
 
     let bright = greys(&[0x7BFF, 0]);
     let tally = Library.tally(&bright);
     assert_eq!((tally.lit, tally.average), (1, 4095));
+    assert_eq!(extremes(&bright), [(144, 255); 2]);
     assert_eq!(levels(&bright), [39, 39, 39, 0, 0, 0]);
 
-    // Luminance (127,137), read from its steps 256(E−136) + T[M]. T[137] is the greatest t with 2^(t+256) ≤ 275^256.
+    // Luminance (127,137), also read from its steps 256(E−136) + T[M]. T[137] is the greatest t with 2^(t+256) ≤ 275^256.
     let red = Elements::Half(vec![0x3C00, 0, 0]);
     let table_entry = Whole::from(275).pow(256).bit_length() as i64 - 1 - 256;
     let steps = 256 * (127 - 136) + table_entry;
     assert_eq!(Library.tally(&strip(&red, 180).unwrap()).sum, steps);
+    assert_eq!(extremes(&strip(&red, 180).unwrap()), [(127, 137); 2]);
     assert_eq!(levels(&strip(&red, 180).unwrap()), [145, 0, 0]);
     assert_eq!(levels(&strip(&red, 1000).unwrap()), [255, 0, 0]);
     println!("examples of pages: 6");
+}
+
+/// The least luminance is that of blue (72,128) alone: 6/100 · 128.5 · 2^-64 is 246.72 · 2^-69. The greatest is that of a grey (184,255).
+/// Of greys the greater mantissa may be the darker: (127,255) is below (129,128). Without light both are absent, and 0.
+#[test]
+fn darkest_and_brightest() {
+    let of = |pixels: &[[u16; 3]]| extremes(&Page::row(180, pixels).strip());
+    let (least, greatest) = ([0, 0, stored(72, 128)], [stored(184, 255); 3]);
+    assert_eq!(of(&[greatest, least]), [(67, 246), (184, 255)]);
+    assert_eq!(
+        of(&[[stored(129, 128); 3], [0; 3], [stored(127, 255); 3]]),
+        [(127, 255), (129, 128)]
+    );
+    assert_eq!(of(&[[0; 3]]), [(0, 0); 2]);
+    println!("examples of darkest and brightest: 3");
 }
 
 /// The picture program's page, whose words hold 80FF and 7FFF, pixel by pixel and beyond.

@@ -18,7 +18,7 @@ const HEIGHT: u64 = 2048;
 const STEPS: [u64; 2] = [WIDTH * HEIGHT - 1, WIDTH * HEIGHT];
 const ACCEPTED: Outcome = Outcome { number: 0, place: 0 };
 
-/// Rows of different looks, so that exponents 72 to 184 stand side by side.
+/// Rows of different looks, so that exponents 72 to 184 stand side by side; the brightest pixel in the middle, the darkest last.
 fn large() -> Page {
     let random = &mut Random::new(SEED);
     let looks = [Look::Wide, Look::Near, Look::Far, Look::Mixed, Look::Powers, Look::Grey];
@@ -26,6 +26,9 @@ fn large() -> Page {
     for y in 0..HEIGHT {
         channels.extend(pages::page(random, looks[y as usize % looks.len()], WIDTH, 1).channels);
     }
+    let (middle, last) = (channels.len() / 6 * 3, channels.len() - 3);
+    channels[middle..middle + 3].fill(pages::BRIGHT);
+    channels[last..].copy_from_slice(&[0, 0, pages::DIM]);
     Page {
         width: WIDTH,
         height: HEIGHT,
@@ -133,7 +136,10 @@ fn a_page_of_all_pixels() {
         first_failure,
     } = library.distances;
     assert_eq!((first_failure, compared), (None, 3 * library.tally.lit));
-    let Tally { lit, average, .. } = library.tally;
+    let tally = library.tally;
+    assert_eq!((tally.darkest_exponent, tally.darkest_mantissa), (67, 246));
+    assert_eq!((tally.brightest_exponent, tally.brightest_mantissa), (184, 255));
+    let Tally { lit, average, .. } = tally;
     let pixels = WIDTH * HEIGHT;
     println!("large page, seed {SEED}: {pixels} pixels, {lit} lit, average {average}, {compared} levels within {worst:.4}");
 }

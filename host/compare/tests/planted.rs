@@ -28,6 +28,9 @@ planted! {
     StepNumber StepPlace StepOver StepRed StepGreen StepBlue StepOfOver StepOfRefused OverOfRefused
     StepRepeated StepSkipped StepCut StepNeverOver StepsAnew StepOverFirst StepRefusedOnce StepRefusedLate
     Lit Sum Present Average Exponent Mantissa TallyOfRefused
+    DarkestExponent DarkestMantissa BrightestExponent BrightestMantissa ExtremesExchanged
+    DarkestExponentOfRefused DarkestMantissaOfRefused BrightestExponentOfRefused BrightestMantissaOfRefused
+    DarkestExponentOfBlack DarkestMantissaOfBlack BrightestExponentOfBlack BrightestMantissaOfBlack
 }
 
 use Planted::*;
@@ -49,6 +52,32 @@ impl Planted {
             PlaceOfAccepted if number == 0 => (0, 1),
             _ => (number, place),
         }
+    }
+
+    fn extremes(self, told: Tally) -> Tally {
+        let (lit, refused) = (told.lit > 0, told.number > 0);
+        let black = !lit && !refused;
+        let mut planted = told;
+        match self {
+            DarkestExponent if lit => planted.darkest_exponent += 1,
+            DarkestMantissa if lit => planted.darkest_mantissa -= 1,
+            BrightestExponent if lit => planted.brightest_exponent -= 1,
+            BrightestMantissa if lit => planted.brightest_mantissa -= 1,
+            ExtremesExchanged => {
+                (planted.darkest_exponent, planted.brightest_exponent) = (told.brightest_exponent, told.darkest_exponent);
+                (planted.darkest_mantissa, planted.brightest_mantissa) = (told.brightest_mantissa, told.darkest_mantissa);
+            }
+            DarkestExponentOfRefused if refused => planted.darkest_exponent = 72,
+            DarkestMantissaOfRefused if refused => planted.darkest_mantissa = 255,
+            BrightestExponentOfRefused if refused => planted.brightest_exponent = 72,
+            BrightestMantissaOfRefused if refused => planted.brightest_mantissa = 255,
+            DarkestExponentOfBlack if black => planted.darkest_exponent = 72,
+            DarkestMantissaOfBlack if black => planted.darkest_mantissa = 255,
+            BrightestExponentOfBlack if black => planted.brightest_exponent = 72,
+            BrightestMantissaOfBlack if black => planted.brightest_mantissa = 255,
+            _ => (),
+        }
+        planted
     }
 }
 
@@ -87,7 +116,7 @@ impl Calls for Planted {
         let needed = strip.len() - 3;
         match self {
             LevelMore if outcome.number == 0 => output[needed - 1] += 1,
-            LevelLess if outcome.number == 0 => output[0] -= 1,
+            LevelLess if outcome.number == 0 => output[0] = output[0].wrapping_sub(1),
             MapBehind if outcome.number == 0 && output.len() > needed => output[needed] ^= 1,
             MapRefused if outcome.number == 4 && !output.is_empty() => output[0] ^= 1,
             _ => (),
@@ -140,7 +169,7 @@ impl Calls for Planted {
     }
 
     fn tally(&self, strip: &[u32]) -> Tally {
-        let told = Library.tally(strip);
+        let told = self.extremes(Library.tally(strip));
         Tally {
             lit: self.on(Lit, told.lit),
             sum: told.sum + (*self == Sum) as i64,
@@ -158,10 +187,10 @@ fn page() -> Page {
     Page::row(180, &[[0x80FF; 3], [0x7FFF; 3]])
 }
 
-/// The sound page and the page with its last blue word wild, through every comparison.
+/// The sound page, the page with its last blue word wild and a black page, through every comparison.
 fn noticed(calls: &dyn Calls) -> bool {
     let mut compare = Compare::new(calls);
-    let (sound, mut wild) = (page(), page());
+    let (sound, mut wild, black) = (page(), page(), Page::row(180, &[[0; 3]; 2]));
     wild.channels[5] = 1;
     let converted = |compare: &mut Compare, page: &Page| {
         let elements = Elements::Stored(page.channels.clone());
@@ -172,6 +201,7 @@ fn noticed(calls: &dyn Calls) -> bool {
         converted(&mut compare, &wild),
         compare.strip(&sound.strip()).map(|_| ()),
         compare.strip(&wild.strip()).map(|_| ()),
+        compare.strip(&black.strip()).map(|_| ()),
     ];
     seen.iter().any(|answer| answer.is_err())
 }

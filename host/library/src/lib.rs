@@ -64,11 +64,27 @@ pub struct Average {
     pub mantissa: u8,
 }
 
+/// A stored number, worth (mantissa + 1/2) * 2^(exponent - 136).
+#[derive(Clone, Copy, Debug, PartialEq, Eq)]
+pub struct Stored {
+    pub exponent: u8,
+    pub mantissa: u8,
+}
+
+/// The smallest and the largest stored luminance among the lit pixels, compared by worth.
+#[derive(Clone, Copy, Debug, PartialEq, Eq)]
+pub struct Extremes {
+    pub darkest: Stored,
+    pub brightest: Stored,
+}
+
+/// The number of lit pixels, the sum of their steps, and what is absent where no pixel is lit: average and extremes.
 #[derive(Clone, Copy, Debug, PartialEq, Eq)]
 pub struct Tally {
     pub lit: u64,
     pub sum: i64,
     pub average: Option<Average>,
+    pub extremes: Option<Extremes>,
 }
 
 /// A source picture's elements: left to right, top row first.
@@ -150,10 +166,21 @@ pub fn tally(strip: &[u32]) -> Result<Tally, Refusal> {
         exponent: told.exponent as u8,
         mantissa: told.mantissa as u8,
     };
+    let extremes = Extremes {
+        darkest: Stored {
+            exponent: told.darkest_exponent as u8,
+            mantissa: told.darkest_mantissa as u8,
+        },
+        brightest: Stored {
+            exponent: told.brightest_exponent as u8,
+            mantissa: told.brightest_mantissa as u8,
+        },
+    };
     let tally = Tally {
         lit: told.lit,
         sum: told.sum,
         average: (told.present == 1).then_some(average),
+        extremes: (told.present == 1).then_some(extremes),
     };
     accepted(told.number, told.place, tally)
 }

@@ -58,6 +58,10 @@ pub struct Tally {
     pub average: i64,
     pub exponent: u64,
     pub mantissa: u64,
+    pub darkest_exponent: u64,
+    pub darkest_mantissa: u64,
+    pub brightest_exponent: u64,
+    pub brightest_mantissa: u64,
 }
 
 extern "C" {

@@ -1,0 +1,128 @@
+//! What `tally` prints.
+
+use crate::worth::worth;
+use dofnihet::{Extremes, Header, Refusal, Source, Stored, Tally};
+
+pub fn text(tally: &Tally) -> Result<String, Refusal> {
+    let average = match tally.average {
+        Some(average) => {
+            let (exponent, mantissa) = (average.exponent, average.mantissa);
+            format!("average {}\nstored {}\n", average.steps, number(Stored { exponent, mantissa }))
+        }
+        None => "average absent\n".to_string(),
+    };
+    let extremes = match tally.extremes {
+        Some(extremes) => extremes_text(extremes)?,
+        None => "darkest absent\nbrightest absent\n".to_string(),
+    };
+    Ok(format!("lit {}\nsum {}\n{average}{extremes}", tally.lit, tally.sum))
+}
+
+fn extremes_text(Extremes { darkest, brightest }: Extremes) -> Result<String, Refusal> {
+    let range = doublings(steps(brightest)? - steps(darkest)?);
+    let (darkest, brightest) = (number(darkest), number(brightest));
+    Ok(format!("darkest {darkest}\nbrightest {brightest}\nrange {range} doublings\n"))
+}
+
+fn number(stored: Stored) -> String {
+    format!("{} {} worth {}", stored.exponent, stored.mantissa, worth(stored))
+}
+
+/// Steps as doublings, 256 to one, to the nearest tenth, halves up.
+fn doublings(steps: i64) -> String {
+    let tenths = (10 * steps + 128) / 256;
+    format!("{}.{}", tenths / 10, tenths % 10)
+}
+
+/// Steps of a luminance: 256(E - 136) + T[M].
+fn steps(luminance: Stored) -> Result<i64, Refusal> {
+    Ok(256 * (luminance.exponent as i64 - 136) + table_entry(luminance.mantissa)?)
+}
+
+/// T[M], as the library has it: the sum of steps of one grey pixel of exponent 136, whose luminance is its channel.
+fn table_entry(mantissa: u8) -> Result<i64, Refusal> {
+    let channel = 256 * 136 + mantissa as u16;
+    let one_pixel = Header {
+        width: 1,
+        height: 1,
+        key: 180,
+    };
+    let mut strip = vec![0; dofnihet::strip_length(1)];
+    dofnihet::convert(Source::Stored(&[channel; 3]), one_pixel, &mut strip)?;
+    Ok(dofnihet::tally(&strip)?.sum)
+}
+
+#[cfg(test)]
+mod tests {
+    use super::{doublings, table_entry, text};
+    use dofnihet::{Average, Extremes, Refusal, Stored, Tally};
+
+    /// T[128], T[192] and T[255] of document 01.
+    #[test]
+    fn table_entries() {
+        assert_eq!(table_entry(128), Ok(1793));
+        assert_eq!(table_entry(192), Ok(1942));
+        assert_eq!(table_entry(255), Ok(2047));
+        let (number, place) = (8, 0);
+        assert_eq!(table_entry(127), Err(Refusal { number, place }));
+    }
+
+    /// Quarters and three quarters are the halves of a tenth: 64 steps are 0.25 doublings.
+    #[test]
+    fn nearest_tenths() {
+        assert_eq!(doublings(0), "0.0");
+        assert_eq!(doublings(12), "0.0");
+        assert_eq!(doublings(13), "0.1");
+        assert_eq!(doublings(63), "0.2");
+        assert_eq!(doublings(64), "0.3");
+        assert_eq!(doublings(191), "0.7");
+        assert_eq!(doublings(192), "0.8");
+        assert_eq!(doublings(243), "0.9");
+        assert_eq!(doublings(244), "1.0");
+        assert_eq!(doublings(256), "1.0");
+        assert_eq!(doublings(2560), "10.0");
+        assert_eq!(doublings(29965), "117.1");
+    }
+
+    /// Greys (106,192) and (129,128) have 1942 - 7680 and 1793 - 1792 steps, 5739 apart: 22.4 doublings. Their worths are 192.5 / 2^30 and
+    /// 128.5 / 128. The average, -5737 / 2 rounded down, is 256 · -12 + 203, and X[203] is 221; 221.5 / 2^19 is its worth.
+    #[test]
+    fn lines() {
+        let tally = Tally {
+            lit: 2,
+            sum: -5737,
+            average: Some(Average {
+                steps: -2869,
+                exponent: 117,
+                mantissa: 221,
+            }),
+            extremes: Some(Extremes {
+                darkest: Stored {
+                    exponent: 106,
+                    mantissa: 192,
+                },
+                brightest: Stored {
+                    exponent: 129,
+                    mantissa: 128,
+                },
+            }),
+        };
+        let wanted = "lit 2\nsum -5737\naverage -2869\nstored 117 221 worth 0.0004225\ndarkest 106 192 worth 1.793e-7\n\
+                      brightest 129 128 worth 1.004\nrange 22.4 doublings\n";
+        assert_eq!(text(&tally).unwrap(), wanted);
+    }
+
+    #[test]
+    fn lines_without_light() {
+        let tally = Tally {
+            lit: 0,
+            sum: 0,
+            average: None,
+            extremes: None,
+        };
+        assert_eq!(
+            text(&tally).unwrap(),
+            "lit 0\nsum 0\naverage absent\ndarkest absent\nbrightest absent\n"
+        );
+    }
+}
