@@ -29,11 +29,7 @@ body-part ws body a k =
       code = λ j h. rw (getD-take k (drop a ws) j 0 (omega arith), getD-drop a ws j 0) (body .code (a + j) (omega arith));
     }
 
--- ---- index 0, and any other
-
-pub at-unlit : {i : ℕ} → i ≡ 0 → luminanceAt i ≡ Unlit
-unfolding luminanceAt
-at-unlit e = rw e
+-- ---- any index but 0
 
 module _ {i : ℕ} (lit : i ≡ 0 → ⊥) where
   pub at-lit : luminanceAt i ≡ Lit (storedAt i)

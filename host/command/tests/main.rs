@@ -6,4 +6,5 @@ mod examples;
 mod memory;
 mod pfm;
 mod refusals;
+mod sample;
 mod usage;
