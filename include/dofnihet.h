@@ -143,9 +143,8 @@ dofnihet_row dofnihet_row_of(const uint32_t *strip, size_t strip_len, uint64_t y
  * Refuses as dofnihet_check does. */
 dofnihet_step dofnihet_step_of(const uint32_t *strip, size_t strip_len, uint64_t n);
 
-/* Tallies a strip: number of lit pixels, sum of their steps, average in steps (256 a power of two) and as stored number, and the smallest
- * and the largest stored luminance among the lit pixels. A stored number is worth (mantissa + 1/2) * 2^(exponent - 136); darkest and
- * brightest are compared by worth.
+/* Tallies a strip: number of lit pixels, sum of their steps, average in steps (256 to a doubling) and as stored number, and the smallest
+ * and the largest, by worth, of the lit pixels' stored luminances. A stored number is worth (mantissa + 1/2) * 2^(exponent - 136).
  * `present` is 1 where a pixel is lit, else 0 with 0 in average and in every exponent and mantissa; a refusal has 0 in all ten.
  * Refuses as dofnihet_check does. */
 dofnihet_tally dofnihet_tally_of(const uint32_t *strip, size_t strip_len);

@@ -2,11 +2,10 @@
 use Prim.Native.Nat.{ℕ, _<_}
 use mathlib.Core.Path.{_≡_, refl, sym, ap, subst, _∙_}
 use mathlib.Core.Logic.{inl, inr}
-use mathlib.Core.List.{List, [], _∷_}
+use mathlib.Core.List.{List}
 use native.Mathlib.Omega.{arith}
-use lib.IntN.{pos, natAbs}
-use lib.ListN.{length, getD}
-use Rattle.number.specs.declared.ratio.Stored.{Stored}
+use Rattle.number.specs.declared.channel.Pixel.{Pixel}
+use Rattle.number.proofs.Laws.{occurs-some}
 use Rattle.refusal.proofs.Laws.{numbered}
 use Rattle.refusal.specs.declared.Outcome.{Outcome}
 use Rattle.refusal.specs.declared.Verdict.{Verdict}
@@ -16,14 +15,13 @@ use Rattle.refusal.specs.Output.{after}
 use Rattle.average.specs.declared.average.Average.the-variants.{Absent, Present}
 use Rattle.average.specs.declared.tally.Extremes.{Extremes}
 use Rattle.average.specs.declared.tally.Extremes.the-variants.{Both}
-use Rattle.average.specs.Tallies.{extremesValues}
-use Rattle.average.specs.Claims.{Occurs, AreExtremes, HasExtremes}
+use Rattle.average.specs.Tallies.{darkestOf, brightestOf}
+use Rattle.average.specs.Claims.{AreExtremes}
 use Rattle.strip.specs.Reading.{stripPixels}
 use Rattle.body.specs.Luminances.{luminancesOf, litCount}
-use Rattle.body.proofs.Laws.{lit-count}
 use Rattle.page.specs.declared.tally.TallyOrRefusal.{TallyOrRefusal}
 use Rattle.page.specs.declared.tally.TallyOrRefusal.the-variants.{Holds, Refuses}
-use Rattle.page.specs.Claims.{TallyPromise, MapPromise}
+use Rattle.page.specs.Claims.{ExtremesOn, TallyPromise, MapPromise}
 use Rattle.page.specs.Tallying.{tallyTold, tallyStrip}
 use Rattle.answers.specs.declared.tallies.TallyAnswer.{TallyAnswer}
 use Rattle.answers.specs.Answers.{tallyAnswer, Reports}
@@ -35,29 +33,15 @@ pub reported : {verdict v : Verdict} {front old new : List ℕ} {told : Outcome}
 reported {front} {old} t v c = record { outcome = t ∙ ap reportOf v; content = c ∙ ap (λ w. after w front old) v }
 
 -- a tally's promise
--- the extremes of an accepted tally, by whether a pixel is lit
-module _ (s : List ℕ) (n : ℕ) (lit : n ≡ litCount (stripPixels s)) where
-  abbrev ys : List Stored
-  ys = luminancesOf (stripPixels s)
+-- the extremes of a page, by whether a pixel is lit
+module _ (ps : List Pixel) where
+  told : (e : Extremes) → ExtremesOn ps e → 0 < litCount ps → AreExtremes (darkestOf e) (brightestOf e) (luminancesOf ps)
+  told Extremes.Absent h some = let none = h .extremes in absurd (omega (arith, none, h .count, some))
+  told (Both d b) h some = h .extremes
 
-  counted : length ys ≡ n
-  counted = lit-count (stripPixels s) ∙ sym lit
-
-  occurs : (y : Stored) (xs : List Stored) → Occurs y xs → 0 < length xs
-  occurs y [] h = absurd h
-  occurs y (x ∷ xs) h = omega arith
-
-  told : (e : Extremes) → HasExtremes e ys → 0 < n
-      → AreExtremes (record { exponent = natAbs (getD (extremesValues e) 0 (pos 0)); mantissa = natAbs (getD (extremesValues e) 1 (pos 0)) })
-      (record { exponent = natAbs (getD (extremesValues e) 2 (pos 0)); mantissa = natAbs (getD (extremesValues e) 3 (pos 0)) }) ys
-  told Extremes.Absent h some = absurd (omega (arith, h, some, counted))
-  told (Both d b) h some = h
-
-  free : (e : Extremes) → HasExtremes e ys → n ≡ 0
-      → (natAbs (getD (extremesValues e) 0 (pos 0)) ≡ 0) × (natAbs (getD (extremesValues e) 1 (pos 0)) ≡ 0)
-      × (natAbs (getD (extremesValues e) 2 (pos 0)) ≡ 0) × (natAbs (getD (extremesValues e) 3 (pos 0)) ≡ 0)
-  free Extremes.Absent h none = (refl, refl, refl, refl)
-  free (Both d b) h none = absurd (omega (arith, occurs d ys (h .darkest-occurs), none, counted))
+  free : (e : Extremes) → ExtremesOn ps e → litCount ps ≡ 0 → e ≡ Extremes.Absent
+  free Extremes.Absent h none = refl
+  free (Both d b) h none = absurd (omega (arith, occurs-some (luminancesOf ps) d (h .extremes .darkest-occurs), h .count, none))
 
 bounded : (s : List ℕ) (a : TallyOrRefusal) → TallyPromise s a → TallyBound s (tallyAnswer a)
 bounded s (Holds t Absent) p =
@@ -66,17 +50,19 @@ bounded s (Holds t Absent) p =
       flag = inl refl;
       absent = λ _ _. p .2;
       mean = λ e. absurd (omega (arith, e));
-      extremes = told s (t .count) (p .0) (t .extremes) (p .1);
-      none = free s (t .count) (p .0) (t .extremes) (p .1);
+      extremes = λ e. absurd (omega (arith, e));
+      refused = λ e. absurd (omega (arith, e));
+      none = λ _. rw (free (stripPixels s) (t .extremes) (p .1) (p .2)) (refl, refl, refl, refl);
     }
 bounded s (Holds t (Present A stored)) p =
     record {
       count = λ _. p .0;
       flag = inr refl;
       absent = λ _ e. absurd (omega (arith, e));
-      mean = λ _. p .2;
-      extremes = told s (t .count) (p .0) (t .extremes) (p .1);
-      none = free s (t .count) (p .0) (t .extremes) (p .1);
+      mean = λ _. p .2 .1;
+      extremes = λ _. told (stripPixels s) (t .extremes) (p .1) (p .2 .0);
+      refused = λ e. absurd (omega (arith, e));
+      none = λ e. absurd (omega (arith, e));
     }
 bounded s (Refuses r i) p =
     record {
@@ -85,6 +71,7 @@ bounded s (Refuses r i) p =
       absent = λ e _. absurd (numbered r i e);
       mean = λ e. absurd (omega (arith, e));
       extremes = λ e. absurd (omega (arith, e));
+      refused = λ _. (refl, refl);
       none = λ _. (refl, refl, refl, refl);
     }
 

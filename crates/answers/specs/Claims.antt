@@ -1,4 +1,4 @@
--- Demand 3, in the numbers that cross to C. Assumes nothing.
+-- Demand 3 and a tally's extremes, in the numbers that cross to C. Assumes nothing.
 use Prim.Native.Nat.{ℕ, _<_}
 use mathlib.Core.Path.{_≡_}
 use mathlib.Core.Logic.{_⊎_}
@@ -19,15 +19,16 @@ darkestIn r = record { exponent = r .«darkest_exponent»; mantissa = r .«darke
 abbrev pub brightestIn : TallyAnswer → Stored
 brightestIn r = record { exponent = r .«brightest_exponent»; mantissa = r .«brightest_mantissa» }
 
--- N counts the lit pixels; an average is present or not, and absent only where no pixel is lit; the first half of demand 3 holds of a
--- present one; where a pixel is lit, the extremes are those of the lit pixels, and else, a refusal included, all their numbers are 0
+-- N counts the lit pixels; an average and extremes are present or not, and absent only where no pixel is lit; the first half of demand 3 holds
+-- of a present average, and present extremes are those of the lit pixels; where they are absent, as in a refusal, their numbers are 0
 pub record TallyBound (s : List ℕ) (r : TallyAnswer) : Type 0 where
   pub count : r .number ≡ 0 → r .lit ≡ litCount (stripPixels s)
   pub flag : (r .present ≡ 0) ⊎ (r .present ≡ 1)
   pub absent : r .number ≡ 0 → r .present ≡ 0 → litCount (stripPixels s) ≡ 0
   pub mean : r .present ≡ 1 → MeanHalf (stripPixels s) (r .average)
-  pub extremes : 0 < r .lit → AreExtremes (darkestIn r) (brightestIn r) (luminancesOf (stripPixels s))
-  pub none : r .lit ≡ 0
+  pub extremes : r .present ≡ 1 → AreExtremes (darkestIn r) (brightestIn r) (luminancesOf (stripPixels s))
+  pub refused : 0 < r .number → (r .lit ≡ 0) × (r .present ≡ 0)
+  pub none : r .present ≡ 0
       → (r .«darkest_exponent» ≡ 0) × (r .«darkest_mantissa» ≡ 0) × (r .«brightest_exponent» ≡ 0) × (r .«brightest_mantissa» ≡ 0)
 
 -- the second half holds of the bytes that an accepted call leaves

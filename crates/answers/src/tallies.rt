@@ -1,8 +1,6 @@
 // The tally of a page.
 ghost use mathlib.Core.Path.{_≡_};
-ghost use lib.IntN.{pos, natAbs};
-ghost use lib.ListN.{getD};
-ghost use Rattle.average.specs.Tallies.{extremesValues};
+ghost use Rattle.average.specs.Tallies.{darkestOf, brightestOf};
 ghost use Rattle.answers.specs.Answers.{tallyAnswer};
 use average::average::Average;
 use average::tally::Extremes;
@@ -29,8 +27,7 @@ pub struct TallyAnswer {
 
 // The darkest luminance, (0,0) where it is absent.
 fn darkest_of(extremes: Extremes) -> Stored
-    ensures exponent { λ r. ⌜ r .exponent ≡ natAbs (getD (extremesValues extremes) 0 (pos 0)) ⌝ }
-    ensures mantissa { λ r. ⌜ r .mantissa ≡ natAbs (getD (extremesValues extremes) 1 (pos 0)) ⌝ }
+    ensures { λ r. ⌜ r ≡ darkestOf extremes ⌝ }
 {
     match extremes {
         Extremes::Absent => Stored {
@@ -43,8 +40,7 @@ fn darkest_of(extremes: Extremes) -> Stored
 
 // The brightest luminance, likewise.
 fn brightest_of(extremes: Extremes) -> Stored
-    ensures exponent { λ r. ⌜ r .exponent ≡ natAbs (getD (extremesValues extremes) 2 (pos 0)) ⌝ }
-    ensures mantissa { λ r. ⌜ r .mantissa ≡ natAbs (getD (extremesValues extremes) 3 (pos 0)) ⌝ }
+    ensures { λ r. ⌜ r ≡ brightestOf extremes ⌝ }
 {
     match extremes {
         Extremes::Absent => Stored {

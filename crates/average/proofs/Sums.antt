@@ -61,7 +61,7 @@ sum-fits {n} s =
     let few : n ≤ 2 ^ 40 = s .few in
     rw (d .is) (sub-fits (d .from) (15630 * n) (omega (arith, d .most)) (omega arith))
 
-pub sum-more : {n : ℕ} {z : ℤ} (y : Stored) → IsSum n z → n < 2 ^ 40 → IsLuminance y → IsSum (n + 1) (z +ℤ stepsOf y)
+sum-more : {n : ℕ} {z : ℤ} (y : Stored) → IsSum n z → n < 2 ^ 40 → IsLuminance y → IsSum (n + 1) (z +ℤ stepsOf y)
 sum-more {n} y s few l =
     let d = sum-lowered s in
     let r = raised-range y l in

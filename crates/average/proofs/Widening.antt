@@ -1,20 +1,22 @@
 -- The extremes of luminances: of one more, of lists one after the other, and that they are what is claimed. Assumes nothing.
-use mathlib.Core.Path.{_≡_, refl, sym, ap, _∙_}
+use mathlib.Core.Path.{_≡_, refl, sym, ap, ap₂, _∙_}
 use mathlib.Core.Logic.{inl, inr}
 use mathlib.Core.Bool.{Bool, true, false, cond}
 use mathlib.Core.List.{List, [], _∷_, _++_}
-use Prim.Native.Nat.{ℕ, _*_}
-use native.Mathlib.Nat.{le-refl, le-trans, le-of-lt, lt-trans}
+use Prim.Native.Nat.{ℕ, _+_, _*_, _≤_}
+use native.Mathlib.Decide.{decLe}
+use native.Mathlib.Nat.{le-refl, le-trans, le-of-lt, lt-trans, lt-of-not-le, not-le-of-lt}
 use native.Mathlib.Omega.{arith}
 use lib.Dec.{leb}
 use lib.ListN.{length}
 use borrow.Author.Tests.{leb-true, leb-false, le-leb, lt-leb}
-use Rattle.number.proofs.Laws.{every-map, AtMost, unit, storedWorth}
+use Rattle.number.proofs.Laws.{every-map, Occurs, every-occurs, AtMost, unit, storedWorth, code-order}
 use Rattle.number.specs.declared.ratio.Stored.{Stored}
 use Rattle.average.specs.declared.tally.Extremes.{Extremes}
 use Rattle.average.specs.declared.tally.Extremes.the-variants.{Absent, Both}
-use Rattle.average.specs.Tallies.{darker, brighter, widest, extremesOf}
-use Rattle.average.specs.Claims.{Occurs, AreExtremes, HasExtremes, ExtremesHold}
+use Rattle.average.specs.Tallies.{darker, brighter, joinExtremes, extremesOf}
+use Rattle.luminance.specs.Pixels.{IsLuminance}
+use Rattle.average.specs.Claims.{Between, AreExtremes, HasExtremes, ExtremesHold, ExtremesAreOne}
 
 -- a worth, as the tests of `darker` and `brighter` compare it
 abbrev size : Stored → ℕ
@@ -40,19 +42,19 @@ brighter-assoc x y z = by (leb (size x) (size y)) (leb (size y) (size z)) refl r
     by false true e f = refl
     by false false e f = rw (e, lt-leb (size x) (size z) (lt-trans (leb-false _ _ f) (leb-false _ _ e)))
 
-widest-assoc : (e f g : Extremes) → widest (widest e f) g ≡ widest e (widest f g)
-widest-assoc Absent f g = refl
-widest-assoc (Both d b) Absent g = refl
-widest-assoc (Both d b) (Both d′ b′) Absent = refl
-widest-assoc (Both d b) (Both d′ b′) (Both d″ b″) = rw (darker-assoc d d′ d″, brighter-assoc b b′ b″)
+joinExtremes-assoc : (e f g : Extremes) → joinExtremes (joinExtremes e f) g ≡ joinExtremes e (joinExtremes f g)
+joinExtremes-assoc Absent f g = refl
+joinExtremes-assoc (Both d b) Absent g = refl
+joinExtremes-assoc (Both d b) (Both d′ b′) Absent = refl
+joinExtremes-assoc (Both d b) (Both d′ b′) (Both d″ b″) = rw (darker-assoc d d′ d″, brighter-assoc b b′ b″)
 
 -- ---- lists one after the other
 
-pub extremes-append : (xs ys : List Stored) → extremesOf (xs ++ ys) ≡ widest (extremesOf xs) (extremesOf ys)
+pub extremes-append : (xs ys : List Stored) → extremesOf (xs ++ ys) ≡ joinExtremes (extremesOf xs) (extremesOf ys)
 unfolding extremesOf
 extremes-append [] ys = refl
 extremes-append (x ∷ xs) ys =
-    ap (widest (Both x x)) (extremes-append xs ys) ∙ sym (widest-assoc (Both x x) (extremesOf xs) (extremesOf ys))
+    ap (joinExtremes (Both x x)) (extremes-append xs ys) ∙ sym (joinExtremes-assoc (Both x x) (extremesOf xs) (extremesOf ys))
 
 -- ---- the claim
 
@@ -105,6 +107,42 @@ extremes-hold (y ∷ ys) = by (extremesOf ys) (extremes-hold ys)
     }
     alone (x ∷ xs) e = absurd (omega (arith, e))
 
-    by : (e : Extremes) → HasExtremes e ys → HasExtremes (widest (Both y y) e) (y ∷ ys)
+    by : (e : Extremes) → HasExtremes e ys → HasExtremes (joinExtremes (Both y y) e) (y ∷ ys)
     by Absent h = alone ys h
     by (Both d b) h = one-more y d b ys h
+
+-- ---- no other two
+
+-- 256E + M
+abbrev code : Stored → ℕ
+code y = 256 * y .exponent + y .mantissa
+
+-- a worth that is at most another has no larger code
+code-le : (x y : Stored) → IsLuminance x → IsLuminance y → AtMost (storedWorth x) (storedWorth y) → code x ≤ code y
+code-le x y l m h = by (decLe (code x) (code y))
+  where
+    by : Dec (code x ≤ code y) → code x ≤ code y
+    by (yes g) = g
+    by (no g) = absurd (not-le-of-lt (code-order _ _ _ _ (m .mantissa) (l .mantissa) .0 (lt-of-not-le g) .cross) (h .cross))
+
+same : (x y : Stored) → IsLuminance x → IsLuminance y → AtMost (storedWorth x) (storedWorth y) → AtMost (storedWorth y) (storedWorth x) → x ≡ y
+same x y l m h g =
+    let a = code-le x y l m h in
+    let b = code-le y x m l g in
+    ap₂ (λ (E M : ℕ). record { exponent = E; mantissa = M })
+    (omega (arith, a, b, l .mantissa .least, l .mantissa .most, m .mantissa .least, m .mantissa .most))
+    (omega (arith, a, b, l .mantissa .least, l .mantissa .most, m .mantissa .least, m .mantissa .most))
+
+pub extremes-one : ExtremesAreOne
+extremes-one ys valid d b d′ b′ one other =
+    let lit : (y : Stored) → Occurs y ys → IsLuminance y = λ y o. every-occurs IsLuminance ys y valid o in
+    record {
+      darkest =
+          same d d′ (lit d (one .darkest-occurs)) (lit d′ (other .darkest-occurs))
+          (every-occurs (Between d b) ys d′ (one .between) (other .darkest-occurs) .low)
+          (every-occurs (Between d′ b′) ys d (other .between) (one .darkest-occurs) .low);
+      brightest =
+          same b b′ (lit b (one .brightest-occurs)) (lit b′ (other .brightest-occurs))
+          (every-occurs (Between d′ b′) ys b (other .between) (one .brightest-occurs) .high)
+          (every-occurs (Between d b) ys b′ (one .between) (other .brightest-occurs) .high);
+    }

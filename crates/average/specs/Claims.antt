@@ -1,15 +1,14 @@
 -- What steps 2 and 3 say of their numbers, what a tally's extremes are, and the first half of demand 3: the average against the true
 -- logarithm of the mean. Assumes nothing. Proved as `entries-greatest` (proofs/Rules.antt), `floor-divides` (proofs/Division.antt),
--- `averages-in-range` (proofs/Averages.antt), `extremes-hold` (proofs/Widening.antt), `tallies-join` (proofs/Sums.antt) and `mean-bound`
+-- `averages-in-range` (proofs/Averages.antt), `extremes-hold` and `extremes-one` (proofs/Widening.antt), `tallies-join` (proofs/Sums.antt) and `mean-bound`
 -- (proofs/Mean.antt).
 use mathlib.Core.Path.{_≡_}
-use mathlib.Core.Logic.{_⊎_}
 use mathlib.Core.List.{List, [], _∷_, _++_}
 use Prim.Native.Nat.{ℕ, _+_, _*_, _^_, _≤_, _<_}
 use lib.IntN.{ℤ, pos, negℤ, _+ℤ_, _-ℤ_, _*ℤ_}
 use lib.ListN.{length}
 use lib.Signed.{_≤ℤ_}
-use Rattle.number.proofs.Laws.{Every, Frac, _over_, _·_, power, twoToThe, AtMost, Below, storedWorth}
+use Rattle.number.proofs.Laws.{Every, Occurs, Frac, _over_, _·_, power, twoToThe, AtMost, Below, storedWorth}
 use Rattle.number.specs.declared.ratio.Stored.{Stored}
 use Rattle.luminance.specs.Pixels.{IsLuminance}
 use Rattle.average.specs.Tallies.{sumOf, tallyOf, join}
@@ -57,11 +56,6 @@ AveragesInRange = (ys : List Stored) → Every IsLuminance ys → length ys ≤ 
 
 -- ---- the extremes of a tally
 
--- one of the luminances of a list
-abbrev pub Occurs : Stored → List Stored → Type 0
-Occurs y [] = ⊥
-Occurs y (x ∷ xs) = (y ≡ x) ⊎ Occurs y xs
-
 -- y lies between the two by worth
 pub record Between (darkest brightest y : Stored) : Type 0 where
   pub low : AtMost (storedWorth darkest) (storedWorth y)
@@ -73,14 +67,23 @@ pub record AreExtremes (darkest brightest : Stored) (ys : List Stored) : Type 0 
   pub brightest-occurs : Occurs brightest ys
   pub between : Every (Between darkest brightest) ys
 
--- absent exactly where there is no luminance: where both are told, they occur
+-- absent exactly where there is no luminance: what occurs is one
 abbrev pub HasExtremes : Extremes → List Stored → Type 0
 HasExtremes Absent ys = length ys ≡ 0
 HasExtremes (Both darkest brightest) ys = AreExtremes darkest brightest ys
 
--- of every tally
+-- of the tally of every list
 abbrev pub ExtremesHold : Type 0
 ExtremesHold = (ys : List Stored) → HasExtremes (tallyOf ys .extremes) ys
+
+-- and no other two are the extremes of a list of luminances
+pub record SameExtremes (d b d′ b′ : Stored) : Type 0 where
+  pub darkest : d ≡ d′
+  pub brightest : b ≡ b′
+
+abbrev pub ExtremesAreOne : Type 0
+ExtremesAreOne = (ys : List Stored) → Every IsLuminance ys
+    → (d b d′ b′ : Stored) → AreExtremes d b ys → AreExtremes d′ b′ ys → SameExtremes d b d′ b′
 
 -- the tally of two lists one after the other is the join of theirs
 abbrev pub TalliesJoin : Type 0

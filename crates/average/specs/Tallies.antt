@@ -16,7 +16,8 @@ unfoldable pub sumOf : List Stored → ℤ
 sumOf [] = pos 0
 sumOf (y ∷ ys) = stepsOf y +ℤ sumOf ys
 
--- "the smallest and the largest stored luminance among lit pixels, compared by worth": of two
+-- "the smallest and the largest stored luminance among lit pixels, compared by worth": of two. Equal worths are one number, since 2M + 1 is
+-- odd, so that it does not matter which of two equals is taken.
 abbrev pub darker : Stored → Stored → Stored
 darker x y = cond (atMost (storedWorth x) (storedWorth y)) x y
 
@@ -24,20 +25,29 @@ abbrev pub brighter : Stored → Stored → Stored
 brighter x y = cond (atMost (storedWorth x) (storedWorth y)) y x
 
 -- of two lists, from theirs
-abbrev pub widest : Extremes → Extremes → Extremes
-widest Absent e = e
-widest (Both d b) Absent = Both d b
-widest (Both d b) (Both d′ b′) = Both (darker d d′) (brighter b b′)
+abbrev pub joinExtremes : Extremes → Extremes → Extremes
+joinExtremes Absent e = e
+joinExtremes (Both d b) Absent = Both d b
+joinExtremes (Both d b) (Both d′ b′) = Both (darker d d′) (brighter b b′)
 
 -- of a list. "On a page with no lit pixel both are absent."
 unfoldable pub extremesOf : List Stored → Extremes
 extremesOf [] = Absent
-extremesOf (y ∷ ys) = widest (Both y y) (extremesOf ys)
+extremesOf (y ∷ ys) = joinExtremes (Both y y) (extremesOf ys)
 
--- in numbers: E and M of the darkest, then of the brightest; all are 0 where they are absent
+-- each by itself: (0,0), which no luminance is, where it is absent
+abbrev pub darkestOf : Extremes → Stored
+darkestOf Absent = record { exponent = 0; mantissa = 0 }
+darkestOf (Both d b) = d
+
+abbrev pub brightestOf : Extremes → Stored
+brightestOf Absent = record { exponent = 0; mantissa = 0 }
+brightestOf (Both d b) = b
+
+-- in numbers: E and M of the darkest, then of the brightest
 abbrev pub extremesValues : Extremes → List ℤ
-extremesValues Absent = pos 0 ∷ pos 0 ∷ pos 0 ∷ pos 0 ∷ []
-extremesValues (Both d b) = pos (d .exponent) ∷ pos (d .mantissa) ∷ pos (b .exponent) ∷ pos (b .mantissa) ∷ []
+extremesValues e =
+    pos (darkestOf e .exponent) ∷ pos (darkestOf e .mantissa) ∷ pos (brightestOf e .exponent) ∷ pos (brightestOf e .mantissa) ∷ []
 
 -- N, "the sum of steps (0 if N = 0)" and the extremes; A and the stored average follow from N and the sum by `averageOf`
 abbrev pub tallyOf : List Stored → Tally
@@ -45,4 +55,4 @@ tallyOf ys = record { count = length ys; sum = sumOf ys; extremes = extremesOf y
 
 -- the tally of two lists one after the other, from theirs
 abbrev pub join : Tally → Tally → Tally
-join t u = record { count = t .count + u .count; sum = t .sum +ℤ u .sum; extremes = widest (t .extremes) (u .extremes) }
+join t u = record { count = t .count + u .count; sum = t .sum +ℤ u .sum; extremes = joinExtremes (t .extremes) (u .extremes) }

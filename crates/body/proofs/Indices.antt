@@ -32,7 +32,7 @@ body-part ws body a k =
 -- ---- any index but 0
 
 module _ {i : ℕ} (lit : i ≡ 0 → ⊥) where
-  pub at-lit : luminanceAt i ≡ Lit (storedAt i)
+  at-lit : luminanceAt i ≡ Lit (storedAt i)
   unfolding luminanceAt
   at-lit = rw (ne-eqb i 0 lit)
 
@@ -56,7 +56,7 @@ in-range p valid = by (luminanceOf p) refl
     by (Lit y) e = luminance-range p valid y e
 
 module _ (p : Pixel) (valid : IsPixel p) where
-  pub luminance-at : luminanceAt (pixelIndex p) ≡ luminanceOf p
+  luminance-at : luminanceAt (pixelIndex p) ≡ luminanceOf p
   luminance-at = index-at (luminanceOf p) (in-range p valid) .0
 
   pub is-index : IsIndex (pixelIndex p)

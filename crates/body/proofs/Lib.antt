@@ -6,7 +6,7 @@ pub mod Luminances
 -- the tally, and the indices that it keeps
 pub mod Indices
 pub mod NearBlocks
-pub mod Runs
+pub mod Tallying
 pub mod Walks
 -- the levels
 pub mod Factors

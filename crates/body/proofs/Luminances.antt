@@ -1,11 +1,9 @@
 -- The luminances of a page's lit pixels. Assumes nothing.
 use Prim.Native.Nat.{ℕ, suc, _≤_}
-use mathlib.Core.Path.{_≡_, refl, sym, ap, _∙_}
+use mathlib.Core.Path.{_≡_, refl, ap, _∙_}
 use mathlib.Core.Bool.{Bool, true, false, cond}
-use mathlib.Core.List.{List, [], _∷_, _++_, append-nil}
-use native.Mathlib.Nat.{add-assoc}
+use mathlib.Core.List.{List, [], _∷_, _++_}
 use native.Mathlib.Omega.{arith}
-use lib.IntN.{+ℤ-assoc}
 use lib.ListN.{length}
 use Rattle.number.specs.declared.channel.Channel.the-variants.{Lit}
 use Rattle.number.specs.declared.channel.Pixel.{Pixel}
@@ -16,8 +14,6 @@ use Rattle.word.proofs.Pixels.{word-valid}
 use Rattle.luminance.specs.declared.pixel.Luminance.{Luminance}
 use Rattle.luminance.specs.declared.pixel.Luminance.the-variants.{Unlit}
 use Rattle.luminance.specs.Pixels.{IsPixel, exactLuminance, anyLit, luminanceOf, IsLuminance}
-use Rattle.average.specs.declared.tally.Tally.{Tally}
-use Rattle.average.specs.Averages.{stepsOf}
 use Rattle.average.specs.Tallies.{tallyOf, join}
 use Rattle.luminance.proofs.Laws.{luminance-range}
 use Rattle.body.specs.Luminances.{ifLit, luminancesOf, litCount}

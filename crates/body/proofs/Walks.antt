@@ -1,8 +1,8 @@
 -- Walks that tally: at each turn the sums and the indices are those of the pixels so far. Assumes nothing.
-use Prim.Native.Nat.{ℕ, _+_, _*_, _/_, _^_, _≤_, _<_, min}
+use Prim.Native.Nat.{ℕ, _+_, _*_, _/_, _≤_, _<_, min}
 use mathlib.Core.Path.{_≡_, refl, sym, ap, _∙_}
 use mathlib.Core.Logic.{_⊎_, ⊎-elim}
-use mathlib.Core.List.{List, [], _∷_, _++_, map, map-append, append-nil, flatMap}
+use mathlib.Core.List.{List, [], _∷_, _++_, map, map-append, flatMap}
 use native.Mathlib.Nat.{zero-add}
 use native.Mathlib.Omega.{arith}
 use lib.ListN.{length, getD, set, take, drop, replicate, length-map, length-append, length-drop, length-replicate, drop-of-length-le}
@@ -16,12 +16,11 @@ use Rattle.refusal.proofs.Outputs.{sets-front, sets-append}
 use Rattle.luminance.specs.Pixels.{IsPixel}
 use Rattle.average.specs.loops.Sums.{total}
 use Rattle.average.proofs.Laws.{total-append}
-use Rattle.body.specs.declared.tally.Sums.{Sums}
-use Rattle.body.specs.loops.Indices.{indexBytes, pixelIndex, indicesOf}
-use Rattle.body.specs.loops.Runs.{stepsAt, unlitAt, AreSums, lowest, indexList}
+use Rattle.body.specs.loops.Indices.{indexBytes, pixelIndex, indicesOf, indexList}
+use Rattle.body.specs.loops.Tallying.{stepsAt, unlitAt, lowest}
 use Rattle.body.proofs.Bytes.{indices-append, length-indices}
 use Rattle.body.proofs.Luminances.{pixels-valid}
-use Rattle.body.proofs.Runs.{lowest-append, lowest-front, summed}
+use Rattle.body.proofs.Tallying.{lowest-append, lowest-front, summed}
 
 -- a sum over the indices of the pixels of words before number p
 unfoldable pub summing : (ℕ → ℕ) → List ℕ → (p : ℕ) → ℕ

@@ -10,8 +10,8 @@ ghost use Rattle.luminance.specs.loops.Codes.{IsWeightTable, indexCount};
 ghost use Rattle.average.specs.Tallies.{tallyOf};
 ghost use Rattle.average.specs.loops.Entries.{IsLogTable};
 ghost use Rattle.body.specs.Luminances.{luminancesOf};
-ghost use Rattle.body.specs.loops.Indices.{IsBody, indexBytes, indicesOf};
-ghost use Rattle.body.specs.loops.Runs.{unlitAt, sumsOf, AreSums, lowest, fromDarkest, fromBrightest, extremesAt, KeptLowest, tallyFrom, indexList};
+ghost use Rattle.body.specs.loops.Indices.{IsBody, indexBytes, indexList, indicesOf};
+ghost use Rattle.body.specs.loops.Tallying.{unlitAt, sumsOf, AreSums, lowest, fromDarkest, fromBrightest, extremesAt, KeptLowest, tallyFrom};
 use crate::blocks::block_end;
 use crate::near::NEAR_PIXELS;
 use crate::near::near_indices;
@@ -43,14 +43,14 @@ fn store_index(index: u64, at: usize, output: &mut [u8])
     output[at + 2] = 0;
 }
 
-// An index in 64 bits.
+// An index in 64 bits: the checker knows the size of a parameter, and not that of an array's element.
 fn wide_index(index: u16) -> u64
     ensures { λ r. ⌜ r ≡ index ⌝ }
 {
     index as u64
 }
 
-// How many pixels are unlit, with that of an index.
+// The number of unlit pixels with one pixel more, by its index.
 fn with_unlit(unlit: u64, index: u64) -> u64
     requires { ⌜ unlit < 2 ^ 40 ⌝ }
     ensures { λ r. ⌜ r ≡ unlit + unlitAt index ⌝ }
@@ -59,8 +59,8 @@ fn with_unlit(unlit: u64, index: u64) -> u64
 }
 
 // The indices and the sums of a block of words, the words from number `at` on of `all`. In an output that has room for all of them, the index
-// of each pixel's luminance goes into the pixel's place. The near indices of a whole block are worked out first; the others are put beside
-// them one by one.
+// of each pixel's luminance goes into the pixel's place. The near indices of a whole block are worked out first; where one is a multiple of
+// 128, the pixel's own takes its place.
 fn index_part(
     logs: &[u16; 128],
     reds: &[u64; 48],
@@ -112,8 +112,8 @@ fn index_part(
     }
 }
 
-// The extremes of a block are kept in 16 places each, so that a compiler takes several at a time: in each the lowest index so far, counted from
-// the darkest on or from the brightest on.
+// Lane j keeps what is lowest of the pixels j, j + 16 and so on: for the darkest, their indices less one, for the brightest, 65,535 less their
+// indices. No lane depends on another, so that a compiler takes several at a time.
 fn keep_lowest(indices: &[u16; 16], dark: &mut [u16; 16], bright: &mut [u16; 16])
     requires { ⌜ (length (now indices) ≡ 16) × (length (now dark) ≡ 16) × (length (now bright) ≡ 16) ⌝ }
     ensures dark { λ _. ⌜ KeptLowest (now (dark .entry)) (map fromDarkest (now (indices .entry))) (now (dark .exit)) ⌝ }
@@ -128,21 +128,21 @@ fn keep_lowest(indices: &[u16; 16], dark: &mut [u16; 16], bright: &mut [u16; 16]
     }
 }
 
-// The lowest of the 16.
-fn lowest_of(places: &[u16; 16]) -> u16
-    requires { ⌜ length (now places) ≡ 16 ⌝ }
-    ensures { λ r. ⌜ r ≡ lowest (now (places .entry)) ⌝ }
+// The lowest of all lanes.
+fn lowest_of(lanes: &[u16; 16]) -> u16
+    requires { ⌜ length (now lanes) ≡ 16 ⌝ }
+    ensures { λ r. ⌜ r ≡ lowest (now (lanes .entry)) ⌝ }
 {
     let mut low: u16 = 65535;
     let mut j: usize = 0;
     while j < NEAR_PIXELS {
-        low = lesser(low, places[j]);
+        low = lesser(low, lanes[j]);
         j += 1;
     }
     low
 }
 
-// The extremes by the lowest index, counted from the darkest on and from the brightest on.
+// The extremes by the lowest of both.
 fn extremes_at(dark: u16, bright: u16) -> Extremes
     ensures { λ r. ⌜ r ≡ extremesAt dark bright ⌝ }
 {
@@ -152,7 +152,7 @@ fn extremes_at(dark: u16, bright: u16) -> Extremes
     Extremes::Both(stored_at(dark as u64 + 1), stored_at(65535 - bright as u64))
 }
 
-// The tally of pixels by their sums and lowest indices.
+// The tally of pixels by their sums and what is lowest.
 fn tally_from(
     logs: &[u16; 128],
     pixels: usize,

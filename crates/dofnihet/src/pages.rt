@@ -13,7 +13,7 @@ use page::tally::tally;
 use refusal::Outcome;
 use refusal::report;
 
-// The lit pixels of a strip, the sum of their steps and the average.
+// The number of lit pixels of a strip, the sum of their steps, the average and the extremes.
 #[no_mangle]
 pub extern "C" fn dofnihet_tally_of(strip: &[u32]) -> TallyAnswer
     ensures answer { λ r. ⌜ r ≡ tallyAnswer (tallyStrip (now (strip .entry))) ⌝ }

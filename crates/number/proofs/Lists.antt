@@ -1,17 +1,27 @@
 -- Laws of what holds of every element, and of a table that is filled entry by entry. Assumes nothing.
 use Prim.Native.Nat.{ℕ, zero, suc, _+_, _<_}
 use mathlib.Core.Path.{_≡_, sym, subst}
+use mathlib.Core.Logic.{⊎-elim}
 use mathlib.Core.List.{List, [], _∷_}
 use native.Mathlib.Omega.{arith}
 use borrow.Author.Count.{below-more}
 use lib.ListN.{length, getD, set, take, length-set}
 use lib.Seq.{getD-set-same, getD-set-other}
-use Rattle.number.specs.Lists.{Every}
+use Rattle.number.specs.Lists.{Every, Occurs}
 
 module _ {X : Type 0} where
   pub every-map : {P Q : X → Type 0} → ((x : X) → P x → Q x) → (xs : List X) → Every P xs → Every Q xs
   every-map f [] h = tt
   every-map f (x ∷ xs) h = (f x (h .0), every-map f xs (h .1))
+
+  -- of each that occurs, and there is one then
+  pub every-occurs : (P : X → Type 0) (xs : List X) (x : X) → Every P xs → Occurs x xs → P x
+  every-occurs P [] x h o = absurd o
+  every-occurs P (y ∷ xs) x h o = ⊎-elim (λ e. subst P (sym e) (h .0)) (λ r. every-occurs P xs x (h .1) r) o
+
+  pub occurs-some : (xs : List X) (x : X) → Occurs x xs → 0 < length xs
+  occurs-some [] x o = absurd o
+  occurs-some (y ∷ xs) x o = omega arith
 
   pub every-take : (P : X → Type 0) (n : ℕ) (xs : List X) → Every P xs → Every P (take n xs)
   every-take P zero xs h = tt

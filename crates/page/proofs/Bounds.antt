@@ -69,7 +69,11 @@ module _ (s : List ℕ) (ok : Whole s) where
     where
       by : (a : Average) → stripAverage s ≡ a → WhereLit (stripPixels s) a Half
       by Absent e = let n = absent _ _ e in let count = lit-count (stripPixels s) in omega arith
-      by (Present A average) e = half A (e ∙ rw (reported _ _ e .stored))
+      by (Present A average) e =
+          let r = reported _ _ e in
+          let some = r .lit in
+          let count = lit-count (stripPixels s) in
+          (omega arith, half A (e ∙ rw (r .stored)))
 
   mean-half : {A : ℤ} {average : Stored} → stripAverage s ≡ Present A average → MeanHalf (stripPixels s) A
   mean-half {A} {average} e =
@@ -104,7 +108,7 @@ tally-bound s = by (checkTally s) refl
   where
     by : (v : Verdict) → checkTally s ≡ v → TallyPromise s (tallyUnder v (tallyOf (stripLuminances s)))
     by Accepted e =
-        (lit-count (stripPixels s), extremes-hold (stripLuminances s), where-lit s (tally-whole s e) (MeanHalf (stripPixels s)) (λ A q. mean-half s (tally-whole s e) q))
+        (lit-count (stripPixels s), record { count = lit-count (stripPixels s); extremes = extremes-hold (stripLuminances s) }, where-lit s (tally-whole s e) (MeanHalf (stripPixels s)) (λ A q. mean-half s (tally-whole s e) q))
     by (Refused r i) e = tt
 
 pub bounded : (s : List ℕ) {r : TallyOrRefusal} → r ≡ tallyStrip s
@@ -137,7 +141,7 @@ module _ (s bytes : List ℕ) (ok : checkTally s ≡ Accepted) (lit : 0 < litCou
       record {
         A = A;
         reported = sym (answered s ok refl (rw (reported _ _ e .stored) (sym e)));
-        bounds = record { mean = mean .2; levels = levels };
+        bounds = record { mean = mean .2 .1; levels = levels .1 };
       }
 
 pub demand-three : DemandThree

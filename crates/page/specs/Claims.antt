@@ -1,4 +1,4 @@
--- Demand 3, as one claim about a page. Assumes nothing.
+-- Demand 3, as one claim about a page, and what the tally promises of its extremes. Assumes nothing.
 -- "the words of its strip, the A of step 3 that the tally reports for them, and the level bytes of step 6 that mapping leaves in the tray"
 use Prim.Native.Nat.{ℕ, _<_}
 use mathlib.Core.Path.{_≡_}
@@ -15,6 +15,7 @@ use Rattle.refusal.specs.Output.{onto}
 use Rattle.strip.specs.Reading.{stripPixels}
 use Rattle.average.specs.declared.average.Average.{Average}
 use Rattle.average.specs.declared.average.Average.the-variants.{Absent, Present}
+use Rattle.average.specs.declared.tally.Extremes.{Extremes}
 use Rattle.average.specs.Averages.{storedAverage}
 use Rattle.tone.specs.Claims.{LevelBound}
 use Rattle.tone.specs.declared.tone.Tone.{Tone}
@@ -59,15 +60,20 @@ pub record ToneBounds (s : List ℕ) (A : ℤ) (bytes : List ℕ) : Type 0 where
 
 -- ---- what the calls promise
 
--- what holds of the A of an average; absent is promised only where no pixel is lit
+-- what holds of the A of an average; absent is promised exactly where no pixel is lit
 abbrev pub WhereLit : List Pixel → Average → (Half : ℤ → Type 0) → Type 0
 WhereLit ps Absent Half = litCount ps ≡ 0
-WhereLit ps (Present A average) Half = Half A
+WhereLit ps (Present A average) Half = (0 < litCount ps) × Half A
 
--- "the first half holds wherever the tally accepts, the second wherever mapping does"; the extremes are those of the page's lit pixels
+-- "both occur on the page": the extremes are those of the luminances of its lit pixels, of which there are N
+pub record ExtremesOn (ps : List Pixel) (e : Extremes) : Type 0 where
+  pub count : length (luminancesOf ps) ≡ litCount ps
+  pub extremes : HasExtremes e (luminancesOf ps)
+
+-- "the first half holds wherever the tally accepts, the second wherever mapping does"
 abbrev pub TallyPromise : (s : List ℕ) → TallyOrRefusal → Type 0
 TallyPromise s (Holds t average) =
-    (t .count ≡ litCount (stripPixels s)) × HasExtremes (t .extremes) (luminancesOf (stripPixels s))
+    (t .count ≡ litCount (stripPixels s)) × ExtremesOn (stripPixels s) (t .extremes)
     × WhereLit (stripPixels s) average (MeanHalf (stripPixels s))
 TallyPromise s (Refuses r i) = Unit
 

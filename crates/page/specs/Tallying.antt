@@ -1,5 +1,6 @@
 -- The tally of a page. Assumes nothing.
--- "A tally of a strip gives N, the sum of steps (0 if N = 0), A and the stored average"
+-- "A tally of a strip gives N, the sum of steps (0 if N = 0), A and the stored average"; "The tally record gains the smallest and the largest
+-- stored luminance among lit pixels"
 use Prim.Native.Nat.{ℕ}
 use mathlib.Core.List.{List, _∷_, _++_}
 use lib.IntN.{pos}

@@ -17,7 +17,7 @@ pub enum TallyOrRefusal {
     Refuses(Refusal, usize),
 }
 
-// The number of lit pixels of a strip, the sum of their steps and the average, or the strip's refusal.
+// The number of lit pixels of a strip, the sum of their steps, their extremes and the average, or the strip's refusal.
 pub fn tally(strip: &[u32]) -> TallyOrRefusal
     ensures answer { λ r. ⌜ r ≡ tallyStrip (now (strip .entry)) ⌝ }
     ensures told { λ r. ⌜ tallyTold r ≡ tallyTold (tallyStrip (now (strip .entry))) ⌝ }

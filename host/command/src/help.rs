@@ -67,9 +67,9 @@ A stored number is worth (M + 1/2) * 2^(E - 136), which is printed with four sig
 are 'lit 0', 'sum 0', 'average absent', 'darkest absent' and 'brightest absent'.
 
 To choose a key: a grey as bright as the average is scaled to K/1000 and comes out at about level 255 * K / (1000 + K), which is 39
-for 180. Darkest and brightest tell how many doublings below and above the average the page goes; a doubling is twice the worth.
-Far below the average each doubling down about halves the level, so details in deep shadows need a higher key, such as 360 or 720.
-Far above it the levels crowd towards 255, so a page whose interest lies there, such as lamps at night, needs a lower one, such
+for 180. The worths tell how far the page goes below and above the average; a doubling is twice the worth. Far below the average
+each doubling down halves a grey's level, so details in deep shadows need a higher key, such as 360 or 720. Far above it greys crowd
+towards 255 and strong colours are cut there, so a page whose interest lies there, such as lamps at night, needs a lower one, such
 as 90.
 ";
 

@@ -64,7 +64,7 @@ fn convert(picture: Picture, key: u64, source: &OsStr, strip: &OsStr) -> Result<
 
 fn tally(strip: &OsStr) -> Result<(), Failure> {
     let tally = dofnihet::tally(&strip::read(strip)?)?;
-    print(&tally::text(&tally)?)
+    print(&tally::text(&tally))
 }
 
 fn map(strip: &OsStr, picture: &OsStr) -> Result<(), Failure> {

@@ -1,9 +1,9 @@
 //! What `tally` prints.
 
 use crate::worth::worth;
-use dofnihet::{Extremes, Header, Refusal, Source, Stored, Tally};
+use dofnihet::{Extremes, Header, Source, Stored, Tally};
 
-pub fn text(tally: &Tally) -> Result<String, Refusal> {
+pub fn text(tally: &Tally) -> String {
     let average = match tally.average {
         Some(average) => {
             let (exponent, mantissa) = (average.exponent, average.mantissa);
@@ -12,16 +12,16 @@ pub fn text(tally: &Tally) -> Result<String, Refusal> {
         None => "average absent\n".to_string(),
     };
     let extremes = match tally.extremes {
-        Some(extremes) => extremes_text(extremes)?,
+        Some(extremes) => extremes_text(extremes),
         None => "darkest absent\nbrightest absent\n".to_string(),
     };
-    Ok(format!("lit {}\nsum {}\n{average}{extremes}", tally.lit, tally.sum))
+    format!("lit {}\nsum {}\n{average}{extremes}", tally.lit, tally.sum)
 }
 
-fn extremes_text(Extremes { darkest, brightest }: Extremes) -> Result<String, Refusal> {
-    let range = doublings(steps(brightest)? - steps(darkest)?);
+fn extremes_text(Extremes { darkest, brightest }: Extremes) -> String {
+    let range = doublings(steps(brightest) - steps(darkest));
     let (darkest, brightest) = (number(darkest), number(brightest));
-    Ok(format!("darkest {darkest}\nbrightest {brightest}\nrange {range} doublings\n"))
+    format!("darkest {darkest}\nbrightest {brightest}\nrange {range} doublings\n")
 }
 
 fn number(stored: Stored) -> String {
@@ -35,12 +35,12 @@ fn doublings(steps: i64) -> String {
 }
 
 /// Steps of a luminance: 256(E - 136) + T[M].
-fn steps(luminance: Stored) -> Result<i64, Refusal> {
-    Ok(256 * (luminance.exponent as i64 - 136) + table_entry(luminance.mantissa)?)
+fn steps(luminance: Stored) -> i64 {
+    256 * (luminance.exponent as i64 - 136) + table_entry(luminance.mantissa)
 }
 
-/// T[M], as the library has it: the sum of steps of one grey pixel of exponent 136, whose luminance is its channel.
-fn table_entry(mantissa: u8) -> Result<i64, Refusal> {
+/// T[M] of a luminance's mantissa, as the library has it: the sum of steps of one grey pixel of exponent 136, whose luminance is its channel.
+fn table_entry(mantissa: u8) -> i64 {
     let channel = 256 * 136 + mantissa as u16;
     let one_pixel = Header {
         width: 1,
@@ -48,23 +48,21 @@ fn table_entry(mantissa: u8) -> Result<i64, Refusal> {
         key: 180,
     };
     let mut strip = vec![0; dofnihet::strip_length(1)];
-    dofnihet::convert(Source::Stored(&[channel; 3]), one_pixel, &mut strip)?;
-    Ok(dofnihet::tally(&strip)?.sum)
+    let tally = dofnihet::convert(Source::Stored(&[channel; 3]), one_pixel, &mut strip).and_then(|()| dofnihet::tally(&strip));
+    tally.expect("a mantissa is 128 to 255").sum
 }
 
 #[cfg(test)]
 mod tests {
     use super::{doublings, table_entry, text};
-    use dofnihet::{Average, Extremes, Refusal, Stored, Tally};
+    use dofnihet::{Average, Extremes, Stored, Tally};
 
     /// T[128], T[192] and T[255] of document 01.
     #[test]
     fn table_entries() {
-        assert_eq!(table_entry(128), Ok(1793));
-        assert_eq!(table_entry(192), Ok(1942));
-        assert_eq!(table_entry(255), Ok(2047));
-        let (number, place) = (8, 0);
-        assert_eq!(table_entry(127), Err(Refusal { number, place }));
+        assert_eq!(table_entry(128), 1793);
+        assert_eq!(table_entry(192), 1942);
+        assert_eq!(table_entry(255), 2047);
     }
 
     /// Quarters and three quarters are the halves of a tenth: 64 steps are 0.25 doublings.
@@ -109,7 +107,7 @@ mod tests {
         };
         let wanted = "lit 2\nsum -5737\naverage -2869\nstored 117 221 worth 0.0004225\ndarkest 106 192 worth 1.793e-7\n\
                       brightest 129 128 worth 1.004\nrange 22.4 doublings\n";
-        assert_eq!(text(&tally).unwrap(), wanted);
+        assert_eq!(text(&tally), wanted);
     }
 
     #[test]
@@ -120,9 +118,6 @@ mod tests {
             average: None,
             extremes: None,
         };
-        assert_eq!(
-            text(&tally).unwrap(),
-            "lit 0\nsum 0\naverage absent\ndarkest absent\nbrightest absent\n"
-        );
+        assert_eq!(text(&tally), "lit 0\nsum 0\naverage absent\ndarkest absent\nbrightest absent\n");
     }
 }

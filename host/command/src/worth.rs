@@ -85,7 +85,7 @@ mod tests {
         assert_eq!(decimal(9999.6), "10000");
     }
 
-    /// Exponent 134 is worth eighths: 128.5 / 4 is 32.125, and 129.5 / 4 is 32.375.
+    /// At exponent 134 worths are odd eighths: 128.5 / 4 is 32.125, and 129.5 / 4 is 32.375.
     #[test]
     fn halves_go_to_the_even_digit() {
         assert_eq!(worth_of(134, 128), "32.12");

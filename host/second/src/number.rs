@@ -94,7 +94,7 @@ impl Number {
     }
 
     /// "compared by worth": the quotient of the two worths, (2M+1)/(2m+1) · 2^(E−e), against 1. Exponents of
-    /// luminances differ by at most 184 − 67, so that its sides have at most 9 + 117 digits.
+    /// luminances differ by at most 184 − 67, so that its sides have at most 9 + 117 binary digits.
     pub(crate) fn by_worth(&self, other: &Number) -> Ordering {
         let power = self.exponent - other.exponent;
         let quotient = Fraction::new(self.significand(), other.significand(), power);

@@ -3,7 +3,7 @@
 use Prim.Native.Nat.{ℕ, _/_, _%_, _^_, _≤_, _<_}
 use mathlib.Core.Path.{_≡_}
 use mathlib.Core.Bool.{cond}
-use mathlib.Core.List.{List, [], _∷_, flatMap}
+use mathlib.Core.List.{List, [], _∷_, map, flatMap}
 use lib.Dec.{eqb}
 use lib.ListN.{length, getD}
 use Rattle.number.specs.Channels.{IsCode}
@@ -40,6 +40,9 @@ indexBytes i = i % 256 ∷ i / 256 ∷ 0 ∷ []
 
 abbrev pub pixelIndex : Pixel → ℕ
 pixelIndex p = indexOf (luminanceOf p)
+
+abbrev pub indexList : List Pixel → List ℕ
+indexList ps = map pixelIndex ps
 
 abbrev pub indicesOf : List Pixel → List ℕ
 indicesOf ps = flatMap (λ p. indexBytes (pixelIndex p)) ps

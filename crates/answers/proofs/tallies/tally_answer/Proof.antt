@@ -17,7 +17,7 @@ returns c =
     let tally = t .answer .given .0 .0 in
     let held : toZ w64 (ofZ w64 (tally .sum)) ≡ tally .sum = search needs in
     let absent = ap (λ x. tallyAnswer (Holds tally x)) (sym (a .enum-told .given .1)) in
-    rw (held, d .darkest-of .ensures .0, d .darkest-of .ensures .1, b .brightest-of .ensures .0, b .brightest-of .ensures .1)
+    rw (held, d .darkest-of .ensures, b .brightest-of .ensures)
     (absent ∙ ap tallyAnswer (sym (t .answer .given .1)))
 
 steps-held : (k : tie.After-known-told2) → toZ w64 (ofZ w64 (k .before .average .given .0 .0)) ≡ k .before .average .given .0 .0
@@ -33,7 +33,7 @@ returns-2 c =
     let tally = t .answer .given .0 .0 in
     let held : toZ w64 (ofZ w64 (tally .sum)) ≡ tally .sum = search needs in
     let present = ap (λ x. tallyAnswer (Holds tally x)) (sym (v .average .given .1)) in
-    rw (held, steps-held k, d .darkest-of .ensures .0, d .darkest-of .ensures .1, b .brightest-of .ensures .0, b .brightest-of .ensures .1)
+    rw (held, steps-held k, d .darkest-of .ensures, b .brightest-of .ensures)
     (present ∙ ap tallyAnswer (sym (t .answer .given .1)))
 
 returns-3 : tie.Need-returns-3

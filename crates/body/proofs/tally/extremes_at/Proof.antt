@@ -1,7 +1,7 @@
 -- `body::tally::extremes_at` meets its contract. Assumes nothing.
 use borrow.Author.Needs.{needs}
 use borrow.Author.Tests.{ne-eqb}
-use Rattle.body.specs.loops.Runs.{extremesAt}
+use Rattle.body.specs.loops.Tallying.{extremesAt}
 use Rattle.body.proofs.tally.extremes_at.Statement.{statement}
 use Rattle.body.proofs.tally.extremes_at.Tie as tie
 

@@ -15,11 +15,11 @@ use Rattle.word.specs.loops.Walks.{pixelAt}
 use Rattle.luminance.specs.loops.Codes.{indexCount}
 use Rattle.body.specs.loops.Indices.{pixelIndex, indexBytes}
 use Rattle.body.specs.loops.NearBlocks.{NearIndices}
-use Rattle.body.specs.loops.Runs.{stepsAt, unlitAt}
+use Rattle.body.specs.loops.Tallying.{stepsAt, unlitAt}
 use Rattle.body.proofs.Indices.{is-index}
 use Rattle.body.proofs.Luminances.{pixel-valid}
 use Rattle.body.proofs.NearBlocks.{none-near}
-use Rattle.body.proofs.Runs.{mantissa-at}
+use Rattle.body.proofs.Tallying.{mantissa-at}
 use Rattle.body.proofs.Walks.{summing, noted, indexed, summing-none, noted-none, indexed-none}
 use Rattle.body.proofs.Walks.{noted-at, summing-next, noted-next, noted-same, indexed-next, summing-all, noted-all, indexed-all, summing-most}
 use Rattle.body.proofs.tally.index_part.Statement.{statement}

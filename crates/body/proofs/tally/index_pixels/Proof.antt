@@ -13,11 +13,11 @@ use Rattle.word.specs.Pixels.{wordPixels}
 use Rattle.word.proofs.Pixels.{length-word-pixels}
 use Rattle.body.specs.declared.tally.Sums.{Sums}
 use Rattle.body.specs.loops.Indices.{indicesOf}
-use Rattle.body.specs.loops.Runs.{stepsAt, unlitAt, lowest, fromDarkest, fromBrightest, indexList}
+use Rattle.body.specs.loops.Tallying.{stepsAt, unlitAt, lowest, fromDarkest, fromBrightest}
 use Rattle.body.proofs.Bytes.{length-indices}
 use Rattle.body.proofs.Indices.{body-part}
 use Rattle.body.proofs.Luminances.{pixels-valid}
-use Rattle.body.proofs.Runs.{summed, tally-from}
+use Rattle.body.proofs.Tallying.{summed, tally-from}
 use Rattle.body.proofs.Walks.{summing, lowering, indexed, summing-none, lowering-none, indexed-none}
 use Rattle.body.proofs.Walks.{summing-part, lowering-part, indexed-part, summing-all, lowering-all, indexed-all, row-long, summing-most}
 use Rattle.body.proofs.tally.index_pixels.Statement.{statement}
@@ -156,7 +156,7 @@ tally-from-requires c κs =
       rw (l .inv .6 ∙ summing-all ws (l .p) done unlitAt, l .inv .7 ∙ summing-all ws (l .p) done stepsAt)
           (record {
             few = omega (arith, s .pre .few);
-            some = omega (arith, sums .count, n);
+            within = omega (arith, sums .count, n);
             least = omega (arith, sums .steps);
             most = omega (arith, sums .most, n);
           }),

@@ -6,8 +6,8 @@ use mathlib.Core.List.{map}
 use native.Mathlib.Omega.{arith}
 use lib.ListN.{length, getD, set, take, length-set}
 use lib.Seq.{take-all}
-use Rattle.body.specs.loops.Runs.{lowest, fromDarkest, fromBrightest}
-use Rattle.body.proofs.Runs.{lowest-most, kept-next}
+use Rattle.body.specs.loops.Tallying.{lowest, fromDarkest, fromBrightest}
+use Rattle.body.proofs.Tallying.{lowest-most, kept-next}
 use Rattle.body.proofs.tally.keep_lowest.Statement.{statement}
 use Rattle.body.proofs.tally.keep_lowest.Tie as tie
 

@@ -5,16 +5,16 @@ use mathlib.Core.Path.{_≡_, refl, ap, _∙_}
 use native.Mathlib.Omega.{arith}
 use lib.ListN.{getD, take}
 use lib.Seq.{take-all}
-use Rattle.body.specs.loops.Runs.{lowest}
-use Rattle.body.proofs.Runs.{lowest-take}
+use Rattle.body.specs.loops.Tallying.{lowest}
+use Rattle.body.proofs.Tallying.{lowest-take}
 use Rattle.body.proofs.tally.lowest_of.Statement.{statement}
 use Rattle.body.proofs.tally.lowest_of.Tie as tie
 
 abbrev Inv-loop : tie.InvT-loop
-Inv-loop places low₀ j₀ low j = low ≡ lowest (take j places)
+Inv-loop lanes low₀ j₀ low j = low ≡ lowest (take j lanes)
 
 abbrev μ-loop : tie.MeasureT-loop
-μ-loop places low₀ j₀ low j = 16 - j
+μ-loop lanes low₀ j₀ low j = 16 - j
 
 loop-holds : tie.Need-loop-holds Inv-loop μ-loop
 unfolding lowest
@@ -23,12 +23,12 @@ loop-holds c = refl
 loop-again : tie.Need-loop-again Inv-loop μ-loop
 loop-again c =
     let l = c .before .before .before .loop in
-    let xs = c .before .before .before .before .args .places .now in
+    let xs = c .before .before .before .before .args .lanes .now in
     c .lesser .ensures ∙ ap (λ n. min n (getD xs (l .j) 0)) (l .inv)
     ∙ lowest-take xs (l .j) (omega (arith, c .before .before .before .before .pre, c .before .before .loop-test .taken))
 
 returns : tie.Need-returns Inv-loop μ-loop
-returns c = c .before .loop .inv ∙ ap lowest (take-all (c .before .loop .j) (c .before .before .args .places .now) (omega (arith, c .before .before .pre, c .loop-test .left)))
+returns c = c .before .loop .inv ∙ ap lowest (take-all (c .before .loop .j) (c .before .before .args .lanes .now) (omega (arith, c .before .before .pre, c .loop-test .left)))
 
 pub lowest-of-spec : {M : Type 1} → statement M
 lowest-of-spec =

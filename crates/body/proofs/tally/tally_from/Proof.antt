@@ -1,12 +1,11 @@
 -- `body::tally::tally_from` meets its contract. Assumes nothing.
 use borrow.Author.Needs.{needs}
-use Prim.Native.Nat.{_*_, _≤_}
-use mathlib.Core.Path.{_≡_, ap}
+use mathlib.Core.Path.{_≡_}
 use native.Mathlib.Omega.{arith}
 use mir.Syntax.{w64}
 use mir.Val.{toZ, ofZ}
-use Rattle.body.specs.loops.Runs.{stepsAt, tallyFrom}
-use Rattle.body.proofs.Runs.{mantissa-at}
+use Rattle.body.specs.loops.Tallying.{stepsAt, tallyFrom}
+use Rattle.body.proofs.Tallying.{mantissa-at}
 use Rattle.body.proofs.tally.tally_from.Statement.{statement}
 use Rattle.body.proofs.tally.tally_from.Tie as tie
 

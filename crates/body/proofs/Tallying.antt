@@ -6,8 +6,8 @@ use mathlib.Core.Logic.{⊎-elim}
 use mathlib.Core.List.{List, [], _∷_, _++_, map, map-append}
 use native.Mathlib.Nat.{le-refl, le-of-lt, eq-or-lt-of-le}
 use native.Mathlib.Omega.{arith}
-use lib.Dec.{leb, eqb}
-use lib.ListN.{length, getD, set, drop, take, replicate, length-map}
+use lib.Dec.{leb}
+use lib.ListN.{length, getD, set, drop, take, replicate}
 use lib.Seq.{take-suc}
 use native.Mathlib.Numerals.{add-one}
 use borrow.Author.Tests.{leb-true, leb-false, le-leb, lt-leb, ne-eqb}
@@ -20,13 +20,13 @@ use Rattle.luminance.specs.declared.pixel.Luminance.the-variants.{Unlit, Lit}
 use Rattle.luminance.specs.Pixels.{IsPixel, luminanceOf, IsLuminance}
 use Rattle.luminance.specs.loops.Codes.{indexOf, indexCount, storedAt}
 use Rattle.luminance.proofs.Laws.{luminance-range, index-stored, index-range}
-use Rattle.average.specs.declared.tally.Extremes.the-variants.{Absent, Both}
-use Rattle.average.specs.Tallies.{sumOf, darker, brighter, widest, extremesOf, tallyOf}
+use Rattle.average.specs.declared.tally.Extremes.the-variants.{Both}
+use Rattle.average.specs.Tallies.{darker, brighter, joinExtremes, extremesOf, tallyOf}
 use Rattle.average.specs.loops.Sums.{total, raisedSteps}
 use Rattle.average.proofs.Laws.{raised-most, sum-is}
 use Rattle.body.specs.Luminances.{ifLit, luminancesOf}
-use Rattle.body.specs.loops.Indices.{pixelIndex}
-use Rattle.body.specs.loops.Runs.{stepsAt, unlitAt, sumsOf, AreSums, lowest, fromDarkest, fromBrightest, extremesAt, tallyFrom, indexList}
+use Rattle.body.specs.loops.Indices.{indexList}
+use Rattle.body.specs.loops.Tallying.{stepsAt, unlitAt, lowest, fromDarkest, fromBrightest, extremesAt, tallyFrom}
 use Rattle.body.proofs.Luminances.{every-luminance}
 
 -- ---- the lowest of several lists
@@ -175,7 +175,7 @@ found y (z ∷ ys) h =
       dark = ap₂ min (from-darkest i place) (f .dark) ∙ less-one i (f .darkest);
       bright = ap (min (65535 - i)) (f .bright) ∙ sym (twice (min (65535 - i) (65535 - f .brightest)) (omega arith));
       both =
-          ap (widest (Both y y)) (f .both)
+          ap (joinExtremes (Both y y)) (f .both)
           ∙ ap₂ Both
           (ap (λ x. darker x (storedAt (f .darkest))) (sym (index-stored y (h .0))) ∙ darker-at i (f .darkest) place d)
           (ap (λ x. brighter x (storedAt (f .brightest))) (sym (index-stored y (h .0))) ∙ brighter-at i (f .brightest) place b);
