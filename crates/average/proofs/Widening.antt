@@ -1,4 +1,4 @@
--- The extremes of luminances: of one more, of lists one after the other, and that they are what is claimed. Assumes nothing.
+-- The extremes of luminances: that they are what is claimed, and no others are; of lists one after the other. Assumes nothing.
 use mathlib.Core.Path.{_≡_, refl, sym, ap, ap₂, _∙_}
 use mathlib.Core.Logic.{inl, inr}
 use mathlib.Core.Bool.{Bool, true, false, cond}
@@ -21,40 +21,6 @@ use Rattle.average.specs.Claims.{Between, AreExtremes, HasExtremes, Extr
 -- a worth, as the tests of `darker` and `brighter` compare it
 abbrev size : Stored → ℕ
 size y = storedWorth y .num * unit
-
--- ---- of three
-
-darker-assoc : (x y z : Stored) → darker (darker x y) z ≡ darker x (darker y z)
-darker-assoc x y z = by (leb (size x) (size y)) (leb (size y) (size z)) refl refl
-  where
-    by : (b c : Bool) → leb (size x) (size y) ≡ b → leb (size y) (size z) ≡ c → darker (cond b x y) z ≡ darker x (cond c y z)
-    by true true e f = rw (le-leb (size x) (size z) (le-trans (leb-true _ _ e) (leb-true _ _ f)), e)
-    by true false e f = refl
-    by false true e f = rw (e, f)
-    by false false e f = rw (f, lt-leb (size x) (size z) (lt-trans (leb-false _ _ f) (leb-false _ _ e)))
-
-brighter-assoc : (x y z : Stored) → brighter (brighter x y) z ≡ brighter x (brighter y z)
-brighter-assoc x y z = by (leb (size x) (size y)) (leb (size y) (size z)) refl refl
-  where
-    by : (b c : Bool) → leb (size x) (size y) ≡ b → leb (size y) (size z) ≡ c → brighter (cond b y x) z ≡ brighter x (cond c z y)
-    by true true e f = rw (le-leb (size x) (size z) (le-trans (leb-true _ _ e) (leb-true _ _ f)), f)
-    by true false e f = rw (e, f)
-    by false true e f = refl
-    by false false e f = rw (e, lt-leb (size x) (size z) (lt-trans (leb-false _ _ f) (leb-false _ _ e)))
-
-joinExtremes-assoc : (e f g : Extremes) → joinExtremes (joinExtremes e f) g ≡ joinExtremes e (joinExtremes f g)
-joinExtremes-assoc Absent f g = refl
-joinExtremes-assoc (Both d b) Absent g = refl
-joinExtremes-assoc (Both d b) (Both d′ b′) Absent = refl
-joinExtremes-assoc (Both d b) (Both d′ b′) (Both d″ b″) = rw (darker-assoc d d′ d″, brighter-assoc b b′ b″)
-
--- ---- lists one after the other
-
-pub extremes-append : (xs ys : List Stored) → extremesOf (xs ++ ys) ≡ joinExtremes (extremesOf xs) (extremesOf ys)
-unfolding extremesOf
-extremes-append [] ys = refl
-extremes-append (x ∷ xs) ys =
-    ap (joinExtremes (Both x x)) (extremes-append xs ys) ∙ sym (joinExtremes-assoc (Both x x) (extremesOf xs) (extremesOf ys))
 
 -- ---- the claim
 
@@ -146,3 +112,37 @@ extremes-one ys valid d b d′ b′ one other =
           (every-occurs (Between d′ b′) ys b (other .between) (one .brightest-occurs) .high)
           (every-occurs (Between d b) ys b′ (one .between) (other .brightest-occurs) .high);
     }
+
+-- ---- of three
+
+darker-assoc : (x y z : Stored) → darker (darker x y) z ≡ darker x (darker y z)
+darker-assoc x y z = by (leb (size x) (size y)) (leb (size y) (size z)) refl refl
+  where
+    by : (b c : Bool) → leb (size x) (size y) ≡ b → leb (size y) (size z) ≡ c → darker (cond b x y) z ≡ darker x (cond c y z)
+    by true true e f = rw (le-leb (size x) (size z) (le-trans (leb-true _ _ e) (leb-true _ _ f)), e)
+    by true false e f = refl
+    by false true e f = rw (e, f)
+    by false false e f = rw (f, lt-leb (size x) (size z) (lt-trans (leb-false _ _ f) (leb-false _ _ e)))
+
+brighter-assoc : (x y z : Stored) → brighter (brighter x y) z ≡ brighter x (brighter y z)
+brighter-assoc x y z = by (leb (size x) (size y)) (leb (size y) (size z)) refl refl
+  where
+    by : (b c : Bool) → leb (size x) (size y) ≡ b → leb (size y) (size z) ≡ c → brighter (cond b y x) z ≡ brighter x (cond c z y)
+    by true true e f = rw (le-leb (size x) (size z) (le-trans (leb-true _ _ e) (leb-true _ _ f)), f)
+    by true false e f = rw (e, f)
+    by false true e f = refl
+    by false false e f = rw (e, lt-leb (size x) (size z) (lt-trans (leb-false _ _ f) (leb-false _ _ e)))
+
+join-extremes-assoc : (e f g : Extremes) → joinExtremes (joinExtremes e f) g ≡ joinExtremes e (joinExtremes f g)
+join-extremes-assoc Absent f g = refl
+join-extremes-assoc (Both d b) Absent g = refl
+join-extremes-assoc (Both d b) (Both d′ b′) Absent = refl
+join-extremes-assoc (Both d b) (Both d′ b′) (Both d″ b″) = rw (darker-assoc d d′ d″, brighter-assoc b b′ b″)
+
+-- ---- lists one after the other
+
+pub extremes-append : (xs ys : List Stored) → extremesOf (xs ++ ys) ≡ joinExtremes (extremesOf xs) (extremesOf ys)
+unfolding extremesOf
+extremes-append [] ys = refl
+extremes-append (x ∷ xs) ys =
+    ap (joinExtremes (Both x x)) (extremes-append xs ys) ∙ sym (join-extremes-assoc (Both x x) (extremesOf xs) (extremesOf ys))
