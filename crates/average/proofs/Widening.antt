@@ -46,8 +46,10 @@ module _ (x y : Stored) (P : Stored → Type 0) where
 -- one luminance more
 one-more : (y d b : Stored) (ys : List Stored) → AreExtremes d b ys → AreExtremes (darker y d) (brighter y b) (y ∷ ys)
 one-more y d b ys before =
-    let low : AtMost (storedWorth (darker y d)) (storedWorth d) = darker-of y d (λ z. AtMost (storedWorth z) (storedWorth d)) (λ h. h) (λ _. at-most-refl d) in
-    let high : AtMost (storedWorth b) (storedWorth (brighter y b)) = brighter-of y b (λ z. AtMost (storedWorth b) (storedWorth z)) (λ h. h) (λ _. at-most-refl b) in
+    let low : AtMost (storedWorth (darker y d)) (storedWorth d) =
+    darker-of y d (λ z. AtMost (storedWorth z) (storedWorth d)) (λ h. h) (λ _. at-most-refl d) in
+    let high : AtMost (storedWorth b) (storedWorth (brighter y b)) =
+    brighter-of y b (λ z. AtMost (storedWorth b) (storedWorth z)) (λ h. h) (λ _. at-most-refl b) in
     record {
       darkest-occurs = darker-of y d (λ z. Occurs z (y ∷ ys)) (λ _. inl refl) (λ _. inr (before .darkest-occurs));
       brightest-occurs = brighter-of y b (λ z. Occurs z (y ∷ ys)) (λ _. inl refl) (λ _. inr (before .brightest-occurs));
@@ -56,7 +58,13 @@ one-more y d b ys before =
           low = darker-of y d (λ z. AtMost (storedWorth z) (storedWorth y)) (λ _. at-most-refl y) (λ h. h);
           high = brighter-of y b (λ z. AtMost (storedWorth y) (storedWorth z)) (λ _. at-most-refl y) (λ h. h);
         },
-        every-map (λ x m. record { low = record { cross = le-trans (low .cross) (m .low .cross) }; high = record { cross = le-trans (m .high .cross) (high .cross) } }) ys (before .between),
+        every-map
+            (λ x m.
+            record {
+              low = record { cross = le-trans (low .cross) (m .low .cross) };
+              high = record { cross = le-trans (m .high .cross) (high .cross) };
+            })
+            ys (before .between),
       );
     }
 

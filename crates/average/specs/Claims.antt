@@ -1,7 +1,7 @@
 -- What steps 2 and 3 say of their numbers, what a tally's extremes are, and the first half of demand 3: the average against the true
 -- logarithm of the mean. Assumes nothing. Proved as `entries-greatest` (proofs/Rules.antt), `floor-divides` (proofs/Division.antt),
--- `averages-in-range` (proofs/Averages.antt), `extremes-hold` and `extremes-one` (proofs/Widening.antt), `tallies-join` (proofs/Sums.antt) and `mean-bound`
--- (proofs/Mean.antt).
+-- `averages-in-range` (proofs/Averages.antt), `extremes-hold` and `extremes-one` (proofs/Widening.antt), `tallies-join` (proofs/Sums.antt) and
+-- `mean-bound` (proofs/Mean.antt).
 use mathlib.Core.Path.{_≡_}
 use mathlib.Core.List.{List, [], _∷_, _++_}
 use Prim.Native.Nat.{ℕ, _+_, _*_, _^_, _≤_, _<_}

@@ -22,4 +22,8 @@ block-near ws r g b near =
 
 -- nothing is worked out
 pub none-near : (ws : List ℕ) → NearIndices ws (replicate 16 0)
-none-near ws = record { long = length-replicate {A = ℕ} 16 0; near = λ j h. record { right = λ r g b other. absurd (other (ap (λ i. i % 128) (getD-replicate 16 j 0 0 h))) } }
+none-near ws =
+    record {
+      long = length-replicate {A = ℕ} 16 0;
+      near = λ j h. record { right = λ r g b other. absurd (other (ap (λ i. i % 128) (getD-replicate 16 j 0 0 h))) };
+    }

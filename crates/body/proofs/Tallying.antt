@@ -102,7 +102,9 @@ module _ (i j : ℕ) (p : IsPlace i) (q : IsPlace j) where
       by : (b : Bool) → leb i j ≡ b → atMost (storedWorth (storedAt i)) (storedWorth (storedAt j)) ≡ b
       by true e =
           ⊎-elim
-          (λ s. subst (λ (k : ℕ). atMost (storedWorth (storedAt i)) (storedWorth (storedAt k)) ≡ true) s (le-leb (weight i) (weight i) (le-refl (weight i))))
+          (λ s.
+          subst (λ (k : ℕ). atMost (storedWorth (storedAt i)) (storedWorth (storedAt k)) ≡ true) s
+          (le-leb (weight i) (weight i) (le-refl (weight i))))
           (λ l. le-leb _ _ (le-of-lt (code-order _ _ _ _ (mantissa-at i) (mantissa-at j) .0 (omega arith) .cross)))
           (eq-or-lt-of-le (leb-true i j e))
       by false e = lt-leb _ _ (code-order _ _ _ _ (mantissa-at j) (mantissa-at i) .0 (omega (arith, leb-false i j e)) .cross)
@@ -253,5 +255,8 @@ module _ (ps : List Pixel) (valid : Every IsPixel ps) where
       let s = summed ps valid in
       let ys = luminancesOf ps in
       let count : length ps - total unlitAt (indexList ps) ≡ length ys = omega (arith, s .count) in
-      let steps : total stepsAt (indexList ps) - total unlitAt (indexList ps) * stepsAt 0 ≡ total raisedSteps ys = omega (arith, s .steps) in
-      rw (n, u, r, count, steps, d, b, lowest-lit fromDarkest refl ps, lowest-lit fromBrightest refl ps, ← sum-is ys, extremes-at ys (every-luminance ps valid))
+      let steps : total stepsAt (indexList ps) - total unlitAt (indexList ps) * stepsAt 0 ≡ total raisedSteps ys =
+      omega (arith, s .steps) in
+      let dark = lowest-lit fromDarkest refl ps in
+      let bright = lowest-lit fromBrightest refl ps in
+      rw (n, u, r, count, steps, d, b, dark, bright, ← sum-is ys, extremes-at ys (every-luminance ps valid))

@@ -108,7 +108,11 @@ tally-bound s = by (checkTally s) refl
   where
     by : (v : Verdict) → checkTally s ≡ v → TallyPromise s (tallyUnder v (tallyOf (stripLuminances s)))
     by Accepted e =
-        (lit-count (stripPixels s), record { count = lit-count (stripPixels s); extremes = extremes-hold (stripLuminances s) }, where-lit s (tally-whole s e) (MeanHalf (stripPixels s)) (λ A q. mean-half s (tally-whole s e) q))
+        let count = lit-count (stripPixels s) in (
+          count,
+          record { count = count; extremes = extremes-hold (stripLuminances s) },
+          where-lit s (tally-whole s e) (MeanHalf (stripPixels s)) (λ A q. mean-half s (tally-whole s e) q),
+        )
     by (Refused r i) e = tt
 
 pub bounded : (s : List ℕ) {r : TallyOrRefusal} → r ≡ tallyStrip s

@@ -21,7 +21,8 @@ use Rattle.body.proofs.Luminances.{pixel-valid}
 use Rattle.body.proofs.NearBlocks.{none-near}
 use Rattle.body.proofs.Tallying.{mantissa-at}
 use Rattle.body.proofs.Walks.{summing, noted, indexed, summing-none, noted-none, indexed-none}
-use Rattle.body.proofs.Walks.{noted-at, summing-next, noted-next, noted-same, indexed-next, summing-all, noted-all, indexed-all, summing-most}
+use Rattle.body.proofs.Walks.{noted-at, summing-next, noted-next, noted-same, indexed-next}
+use Rattle.body.proofs.Walks.{summing-all, noted-all, indexed-all, summing-most}
 use Rattle.body.proofs.tally.index_part.Statement.{statement}
 use Rattle.body.proofs.tally.index_part.Tie as tie
 
@@ -39,6 +40,9 @@ near c = ⊎-elim (λ w. rw (w .3) (w .2 .ensures)) (λ w. rw (w .1, c .before .
 
 from : (c : tie.Joined1 Inv-loop μ-loop) → (length (now (c .before .before .before .args .words)) ≡ 48) ⊎ (c .if1 .indices ≡ replicate 16 0)
 from c = ⊎-elim (λ w. inl (w .0 .taken)) (λ w. inr (w .1 ∙ c .before .before .before .pre .6)) (c .if1 .came)
+
+near-indices-requires : tie.Need-near-indices-requires Inv-loop μ-loop
+near-indices-requires c κs = (omega (arith, c .before .if1 .taken), ap length (c .before .before .before .before .pre .6))
 
 loop-holds : tie.Need-loop-holds Inv-loop μ-loop
 loop-holds c = (refl, λ fits. indexed-none _ _ _, noted-none _ _, summing-none unlitAt _, summing-none stepsAt _, omega arith)
@@ -72,7 +76,8 @@ cast-indices c =
     let b = c .before in
     let g = b .before .before in
     let t = turn c in
-    let index : c .luminance-index .result ≡ pixelIndex (pixelAt (t .before .before .before .before .before .args .words .now) (t .before .loop .p)) =
+    let ws = t .before .before .before .before .before .args .words .now in
+    let index : c .luminance-index .result ≡ pixelIndex (pixelAt ws (t .before .loop .p)) =
     rw (g .before .before .low-half .ensures, g .low-half2 .ensures, b .low-half3 .ensures) at (c .luminance-index .ensures) in
     let range : c .luminance-index .result < indexCount = rw index (is-index _ (pixel-valid _ _ _) .small) in
     record { fits = omega (arith, range) }
@@ -82,7 +87,8 @@ with-unlit-requires c κs =
     let t = turn c in
     let l = t .before .loop in
     let s = t .before .before .before .before .before in
-    omega (arith, l .inv .3, s .pre .4, t .loop-test .taken, summing-most (s .args .words .now) (l .p) (omega (arith, t .loop-test .taken)) .0)
+    let inside = t .loop-test .taken in
+    omega (arith, l .inv .3, s .pre .4, inside, summing-most (s .args .words .now) (l .p) (omega (arith, inside)) .0)
 
 -- what is settled of pixel p: its index, the indices of the block, and how many pixels are unlit
 record Settled (ws near : List ℕ) (p i u : ℕ) (is : List ℕ) : Type 0 where
@@ -91,8 +97,8 @@ record Settled (ws near : List ℕ) (p i u : ℕ) (is : List ℕ) : Type 0 where
   pub unlit : u ≡ summing unlitAt ws (p + 1)
 
 settled : (c : tie.Joined2 Inv-loop μ-loop) → let t = c .before .before .before in
-    Settled (t .before .before .before .before .before .args .words .now) (t .before .before .if1 .indices) (t .before .loop .p) (c .if2 .index)
-    (c .if2 .unlit) (c .if2 .indices)
+    Settled (t .before .before .before .before .before .args .words .now) (t .before .before .if1 .indices) (t .before .loop .p)
+    (c .if2 .index) (c .if2 .unlit) (c .if2 .indices)
 settled c =
     let t = c .before .before .before in
     let l = t .before .loop in
@@ -114,9 +120,11 @@ settled c =
     let k = codes t in
     let x = c .before .wide-index .result in
     let read : x ≡ getD (l .indices) (l .p) 0 = c .before .wide-index .ensures in
-    let here : x ≡ getD (n .if1 .indices) (l .p) 0 = read ∙ ap (λ r. getD r (l .p) 0) (inv .2) ∙ noted-at ws (l .p) inside _ (near n .long) (s .pre .4) in
+    let here : x ≡ getD (n .if1 .indices) (l .p) 0 =
+    read ∙ ap (λ r. getD r (l .p) 0) (inv .2) ∙ noted-at ws (l .p) inside _ (near n .long) (s .pre .4) in
     let index : x ≡ pixelIndex (pixelAt ws (l .p)) =
-    here ∙ near n .near (l .p) (omega (arith, inside, s .pre .4)) .right (k .0) (k .1) (k .2) (λ e. w .0 .left (ap (λ i. i % 128) here ∙ e)) in
+    here
+    ∙ near n .near (l .p) (omega (arith, inside, s .pre .4)) .right (k .0) (k .1) (k .2) (λ e. w .0 .left (ap (λ i. i % 128) here ∙ e)) in
     let lit : unlitAt x ≡ 0 = rw (ne-eqb x 0 (λ e. w .0 .left (ap (λ i. i % 128) e))) in
     record {
       index = w .3 ∙ index;
@@ -134,7 +142,8 @@ raised-steps-requires c κs =
 
 -- the raised steps with those of pixel p
 more : (c : tie.After-raised-steps Inv-loop μ-loop) → let t = c .before .before .before .before .before .before in
-    t .before .loop .raised + c .raised-steps .result ≡ summing stepsAt (t .before .before .before .before .before .args .words .now) (t .before .loop .p + 1)
+    t .before .loop .raised + c .raised-steps .result
+    ≡ summing stepsAt (t .before .before .before .before .before .args .words .now) (t .before .loop .p + 1)
 more c =
     let j = c .before .before .before in
     let t = j .before .before .before in
@@ -145,8 +154,9 @@ add-raised : tie.Need-add-raised Inv-loop μ-loop
 add-raised c =
     let t = c .before .before .before .before .before .before in
     let s = t .before .before .before .before .before in
-    let p = t .before .loop .p in
-    rw (more c) (record { fits = omega (arith, s .pre .4, t .loop-test .taken, summing-most (s .args .words .now) (p + 1) (omega (arith, t .loop-test .taken)) .1) })
+    let inside = t .loop-test .taken in
+    let most = summing-most (s .args .words .now) (t .before .loop .p + 1) (omega (arith, inside)) .1 in
+    rw (more c) (record { fits = omega (arith, s .pre .4, inside, most) })
 
 loop-again : tie.Need-loop-again Inv-loop μ-loop
 loop-again c =
@@ -178,8 +188,10 @@ returns c =
     let done = c .loop-test .left in
     let n = c .before .before in
     let s = n .before .before .before in
-    let ws = s .args .words .now in (
-      ap₂ (λ (u r : ℕ). record { unlit = u; raised = r }) (inv .3 ∙ summing-all ws (l .p) done unlitAt) (inv .4 ∙ summing-all ws (l .p) done stepsAt),
+    let ws = s .args .words .now in
+    let unlit = inv .3 ∙ summing-all ws (l .p) done unlitAt in
+    let raised = inv .4 ∙ summing-all ws (l .p) done stepsAt in (
+      ap₂ (λ (u r : ℕ). record { unlit = u; raised = r }) unlit raised,
       (inv .2 ∙ noted-all ws (l .p) done _ (near n .long) (s .pre .4) (from n), (inv .0, λ fits. inv .1 fits ∙ indexed-all _ _ done _ _)),
     )
 
@@ -187,8 +199,9 @@ pub index-part-spec : {M : Type 1} → statement M
 index-part-spec =
     tie.close
     (tie.spec
-    Inv-loop μ-loop (λ c. search needs) (λ c κs. (omega (arith, c .before .if1 .taken), ap length (c .before .before .before .before .pre .6))) loop-holds (λ c. omega arith)
-    (λ c. search needs) (λ c. search needs) (λ c κs. search needs) (λ c. search needs) (λ c. search needs) (λ c κs. search needs) (λ c. search needs) (λ c. search needs)
-    (λ c. search needs) (λ c κs. search needs) (λ c. search needs) (λ c. search needs) (λ c. search needs) (λ c κs. search needs)
-    luminance-index-requires cast-indices (λ c. search needs) (λ c. search needs) with-unlit-requires (λ c. search needs) (λ c κs. (small (c .before .before), omega arith))
-    (λ c κs. search needs) raised-steps-requires add-raised (λ c. search needs) (λ c. search needs) loop-again (λ c. search needs) returns)
+    Inv-loop μ-loop (λ c. search needs) near-indices-requires loop-holds (λ c. omega arith)
+    (λ c. search needs) (λ c. search needs) (λ c κs. search needs) (λ c. search needs) (λ c. search needs) (λ c κs. search needs)
+    (λ c. search needs) (λ c. search needs) (λ c. search needs) (λ c κs. search needs) (λ c. search needs) (λ c. search needs)
+    (λ c. search needs) (λ c κs. search needs) luminance-index-requires cast-indices (λ c. search needs) (λ c. search needs)
+    with-unlit-requires (λ c. search needs) (λ c κs. (small (c .before .before), omega arith)) (λ c κs. search needs)
+    raised-steps-requires add-raised (λ c. search needs) (λ c. search needs) loop-again (λ c. search needs) returns)

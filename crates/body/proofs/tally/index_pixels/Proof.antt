@@ -35,8 +35,17 @@ abbrev μ-loop : tie.MeasureT-loop
 
 loop-holds : tie.Need-loop-holds Inv-loop μ-loop
 unfolding lowest
-loop-holds c =
-    (refl, λ fits. indexed-none _ _ _, refl, lowering-none fromDarkest _, refl, lowering-none fromBrightest _, summing-none unlitAt _, summing-none stepsAt _, omega arith)
+loop-holds c = (
+  refl,
+  λ fits. indexed-none _ _ _,
+  refl,
+  lowering-none fromDarkest _,
+  refl,
+  lowering-none fromBrightest _,
+  summing-none unlitAt _,
+  summing-none stepsAt _,
+  omega arith,
+)
 
 index-part-requires : tie.Need-index-part-requires Inv-loop μ-loop
 index-part-requires c κs =
@@ -187,5 +196,6 @@ index-pixels-spec =
     (tie.spec
     Inv-loop μ-loop (λ c κs. search needs) (λ c κs. search needs) (λ c κs. search needs) loop-holds (λ c κs. search needs)
     (λ c. omega arith) (λ c. omega arith) (λ c. omega arith) (λ c. omega arith) (λ c. omega arith) (λ c. omega arith) (λ c. omega arith)
-    index-part-requires keep-lowest-requires add-unlit add-raised (λ c. omega arith) loop-again (λ c κs. c .before .before .before .loop .inv .2) (λ c κs. c .before .before .before .before .before .loop .inv .4)
+    index-part-requires keep-lowest-requires add-unlit add-raised (λ c. omega arith) loop-again
+    (λ c κs. c .before .before .before .loop .inv .2) (λ c κs. c .before .before .before .before .before .loop .inv .4)
     tally-from-requires (λ c. search needs) returns)

@@ -34,7 +34,8 @@ loop-again c =
     let i = getD is (l .j) 0 in
     let inv = l .inv in
     let inside : l .j < length is = omega (arith, s .pre .0, c .before .before .before .before .before .before .loop-test .taken) in
-    let down : d .before .wrapping-sub-u16 .result ≡ fromDarkest i = omega (arith, d .before .wrapping-sub-u16 .ensures, d .before .wrapping-sub-u16 .ok) in (
+    let w = d .before .wrapping-sub-u16 in
+    let down : w .result ≡ fromDarkest i = omega (arith, w .ensures, w .ok) in (
       rw length-set (inv .0),
       ap (λ w. lowest (set (l .dark) (l .j) w)) (d .lesser .ensures ∙ ap (min (getD (l .dark) (l .j) 0)) down)
           ∙ kept-next fromDarkest is (l .j) inside _ (l .dark) (omega (arith, inv .0, inside)) (inv .1),
@@ -59,5 +60,5 @@ keep-lowest-spec =
     tie.close
     (tie.spec
     Inv-loop μ-loop loop-holds (λ c. search needs) (λ c. search needs) (λ c. search needs) (λ c. search needs) (λ c κs. search needs)
-    (λ c κs. search needs) (λ c. search needs) (λ c. search needs) (λ c. search needs) (λ c. search needs) (λ c. search needs) (λ c κs. search needs)
-    (λ c. search needs) (λ c. search needs) (λ c. search needs) (λ c. search needs) loop-again returns)
+    (λ c κs. search needs) (λ c. search needs) (λ c. search needs) (λ c. search needs) (λ c. search needs) (λ c. search needs)
+    (λ c κs. search needs) (λ c. search needs) (λ c. search needs) (λ c. search needs) (λ c. search needs) loop-again returns)

@@ -28,7 +28,10 @@ loop-again c =
     ∙ lowest-take xs (l .j) (omega (arith, c .before .before .before .before .pre, c .before .before .loop-test .taken))
 
 returns : tie.Need-returns Inv-loop μ-loop
-returns c = c .before .loop .inv ∙ ap lowest (take-all (c .before .loop .j) (c .before .before .args .lanes .now) (omega (arith, c .before .before .pre, c .loop-test .left)))
+returns c =
+    let l = c .before .loop in
+    let s = c .before .before in
+    l .inv ∙ ap lowest (take-all (l .j) (s .args .lanes .now) (omega (arith, s .pre, c .loop-test .left)))
 
 pub lowest-of-spec : {M : Type 1} → statement M
 lowest-of-spec =
