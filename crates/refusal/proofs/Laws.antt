@@ -14,6 +14,7 @@ use Rattle.refusal.specs.declared.Refusal.the-variants.{
   UnexpectedWord,
   InvalidChannel,
   NoSuchRow,
+  UnlikeBands,
 }
 use Rattle.refusal.specs.declared.Verdict.{Verdict}
 use Rattle.refusal.specs.declared.Verdict.the-variants.{Accepted, Refused}
@@ -72,3 +73,4 @@ numbered TooBright i e = omega (arith, e)
 numbered UnexpectedWord i e = omega (arith, e)
 numbered InvalidChannel i e = omega (arith, e)
 numbered NoSuchRow i e = omega (arith, e)
+numbered UnlikeBands i e = omega (arith, e)

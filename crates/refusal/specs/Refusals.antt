@@ -1,5 +1,5 @@
--- The refusal list of document 01, the only list of numbers and places. The condition of each stands with the check that makes it.
--- Assumes nothing.
+-- The refusal list of document 01 with the lines that document 02 adds, the only list of numbers and places. The condition of each stands
+-- with the check that makes it. Assumes nothing.
 use Prim.Native.Nat.{ℕ}
 use Rattle.refusal.specs.declared.Refusal.{Refusal}
 use Rattle.refusal.specs.declared.Refusal.the-variants.{
@@ -12,6 +12,7 @@ use Rattle.refusal.specs.declared.Refusal.the-variants.{
   UnexpectedWord,
   InvalidChannel,
   NoSuchRow,
+  UnlikeBands,
 }
 use Rattle.refusal.specs.declared.Outcome.{Outcome}
 
@@ -39,3 +40,5 @@ outcomeOf UnexpectedWord i = 7 at i
 outcomeOf InvalidChannel i = 8 at i
 -- "no such row"
 outcomeOf NoSuchRow i = 20 at 0
+-- "unlike bands" (2026-02)
+outcomeOf UnlikeBands i = 21 at 0

@@ -14,6 +14,7 @@ pub enum Refusal {
     UnexpectedWord,
     InvalidChannel,
     NoSuchRow,
+    UnlikeBands,
 }
 
 // What a call reports; C takes it as it is.
@@ -68,6 +69,10 @@ pub fn outcome_of(refusal: Refusal, index: usize) -> Outcome
         },
         Refusal::NoSuchRow => Outcome {
             number: 20,
+            place: 0,
+        },
+        Refusal::UnlikeBands => Outcome {
+            number: 21,
             place: 0,
         },
     }
