@@ -1,6 +1,7 @@
 //! A second tone step: the page strip, its tally and its mapping, by the papers' rules in exact whole numbers.
 //! It is simple rather than fast, and stands beside another implementation for comparison.
 
+mod bands;
 pub mod fixed;
 mod nearness;
 mod number;
@@ -19,10 +20,11 @@ pub use sources::Source;
 pub use strip::Header;
 pub use tone::{Average, Extremes, Tally};
 
+use bands::Bands;
 use refusal::{require, DARK_PAGE};
 use std::ops::Range;
 
-/// Which of the later changes hold; 2026-01, darkest and brightest in the tally, always does.
+/// Which of the later changes hold; 2026-01, darkest and brightest in the tally, and 2026-02, bands, always do.
 #[derive(Clone, Copy, Debug)]
 pub struct Rules {
     /// 2026-03: a page is refused when sixteen times its lit pixels is below its pixel count.
@@ -36,7 +38,7 @@ pub struct Rules {
 }
 
 impl Rules {
-    /// Document 01 with 2026-01 and no other change.
+    /// Document 01 with 2026-01 and 2026-02 and no other change.
     pub const BASE: Rules = Rules {
         dark_page: false,
         white_word: false,
@@ -114,6 +116,36 @@ impl SecondStep {
         Ok(tone::levels(strip::pixels(strip, &header), &header, average))
     }
 
+    /// The header of the tall page of an accepted row of bands.
+    pub fn header_of_bands(&self, row: &[u32]) -> Result<Header, Refusal> {
+        Bands::accept(&self.rules, row).map(|bands| bands.page)
+    }
+
+    /// The joined tally.
+    pub fn tally_of_bands(&self, row: &[u32]) -> Result<Tally, Refusal> {
+        self.joined(row).map(|(_, tally)| tally)
+    }
+
+    /// Mapping under the joined average: the levels of the bands one after another; `room` is in bytes, "the tray is
+    /// checked last".
+    pub fn levels_of_bands(&self, row: &[u32], room: usize) -> Result<Vec<u8>, Refusal> {
+        let (bands, tally) = self.joined(row)?;
+        bands.page.check_room(room)?;
+        Ok(tone::levels(bands.pixels(), &bands.page, tally.average))
+    }
+
+    /// "the one tall strip" of an accepted row of bands.
+    pub fn tall_strip(&self, row: &[u32]) -> Result<Vec<u32>, Refusal> {
+        Bands::accept(&self.rules, row).map(|bands| bands.tall_strip())
+    }
+
+    /// The row of bands of an accepted strip cut into these heights; it panics unless each is at least 1 and they sum to
+    /// the strip's height.
+    pub fn cut(&self, strip: &[u32], heights: &[u64]) -> Vec<u32> {
+        let header = self.header(strip).expect("an accepted strip");
+        bands::cut(strip, &header, heights)
+    }
+
     /// The whole output of the picture program for this standard input.
     pub fn picture(&self, input: &[u8]) -> Vec<u8> {
         picture::print(self, input)
@@ -147,11 +179,23 @@ impl SecondStep {
     /// The checks of tallying and mapping: those of a strip, then "9 dark page, place 0, after every word has passed".
     fn page(&self, strip: &[u32], room: Option<usize>) -> Result<Header, Refusal> {
         let header = strip::accept(&self.rules, strip, room)?;
-        if self.rules.dark_page {
-            let lit = strip::pixels(strip, &header).filter(tone::is_lit).count();
-            require(16 * lit >= header.pixels(), DARK_PAGE)?;
-        }
+        let lit = strip::pixels(strip, &header).filter(tone::is_lit).count();
+        self.check_light(lit as u64, &header)?;
         Ok(header)
+    }
+
+    /// An accepted row of bands and their joined tally; "For bands the rule looks at the joined tally only."
+    fn joined<'a>(&self, row: &'a [u32]) -> Result<(Bands<'a>, Tally), Refusal> {
+        let bands = Bands::accept(&self.rules, row)?;
+        let tallies = bands.iter().map(|(header, strip)| self.tally_of(strip, header));
+        let tally = tone::join(tallies, &self.mantissa_table);
+        self.check_light(tally.lit, &bands.page)?;
+        Ok((bands, tally))
+    }
+
+    /// Dark page: "sixteen times its lit pixels is below its pixel count".
+    fn check_light(&self, lit: u64, page: &Header) -> Result<(), Refusal> {
+        require(!self.rules.dark_page || 16 * lit >= page.pixels() as u64, DARK_PAGE)
     }
 
     /// The tally of an accepted page.

@@ -7,6 +7,20 @@ pub struct Refusal {
     pub place: u64,
 }
 
+impl Refusal {
+    /// Of a strip that begins at `start` of a row, its place counted from the row's start; those without a place of
+    /// their own keep 0.
+    pub(crate) fn counted_from(self, start: usize) -> Refusal {
+        match self.number {
+            FOREIGN_WORD | WILD_CHANNEL => Refusal {
+                place: self.place + start as u64,
+                ..self
+            },
+            _ => self,
+        }
+    }
+}
+
 pub const BAD_SIZE: u64 = 1;
 pub const BAD_KEY: u64 = 2;
 pub const WRONG_LENGTH: u64 = 3;
@@ -18,6 +32,7 @@ pub const WILD_CHANNEL: u64 = 8;
 pub const DARK_PAGE: u64 = 9;
 pub const BAD_WHITE: u64 = 10;
 pub const NO_SUCH_ROW: u64 = 20;
+pub const UNLIKE_BANDS: u64 = 21;
 
 /// Passes, or refuses with the number at place 0.
 pub fn require(holds: bool, number: u64) -> Result<(), Refusal> {

@@ -22,11 +22,14 @@ pub struct Header {
 }
 
 impl Header {
-    /// Bad size: "width or height 0 or above 8,192, or more than 16,777,216 pixels".
-    fn check_size(&self) -> Result<(), Refusal> {
+    /// No bad size: "width or height 0 or above 8,192, or more than 16,777,216 pixels".
+    pub(crate) fn has_good_size(&self) -> bool {
         let side = 1..=8_192;
-        let sides = side.contains(&self.width) && side.contains(&self.height);
-        require(sides && self.width * self.height <= 16_777_216, BAD_SIZE)
+        side.contains(&self.width) && side.contains(&self.height) && self.width * self.height <= 16_777_216
+    }
+
+    fn check_size(&self) -> Result<(), Refusal> {
+        require(self.has_good_size(), BAD_SIZE)
     }
 
     /// Bad key: "K is 0 or above 1,000".
@@ -44,6 +47,11 @@ impl Header {
         self.check_size()?;
         self.check_key()?;
         self.check_white()
+    }
+
+    /// Small tray, for an outcome of three elements a pixel.
+    pub(crate) fn check_room(&self, room: usize) -> Result<(), Refusal> {
+        require(room >= 3 * self.pixels(), SMALL_OUTPUT)
     }
 
     /// Of a header that passed.
@@ -91,23 +99,40 @@ pub fn convert(rules: &Rules, source: Source, mut header: Header, room: usize) -
     let pixels = header.pixels();
     require(source.length() == source.elements_per_pixel() * pixels as u64, WRONG_LENGTH)?;
     require(room >= header.strip_length(), SMALL_OUTPUT)?;
-    let mut strip = Vec::with_capacity(header.strip_length());
-    strip.push(word(SIZE, (header.width << 14 | header.height) as u32));
-    strip.push(word(KEY, header.key as u32));
-    strip.extend(header.white.map(|white| word(WHITE, white as u32)));
+    let mut strip = begin(&header);
     for pixel in 0..pixels {
         for channel in 0..3 {
             let stored = source.channel(pixel, channel)?;
             strip.push(word(RED + channel as u32, stored.bits() as u32));
         }
     }
-    strip.push(word(END, pixels as u32));
+    strip.push(end_word(&header));
     Ok(strip)
 }
 
-/// A strip without its channels: "fewer than two words is 3; then first word 7, size 1, second word 7, key 2,
-/// length 3"; for the white word "7 for spare bits, then 10 bad white .. both between key and length".
+/// A strip's words before its channels, with room for the rest of it.
+pub fn begin(header: &Header) -> Vec<u32> {
+    let mut strip = Vec::with_capacity(header.strip_length());
+    strip.push(word(SIZE, (header.width << 14 | header.height) as u32));
+    strip.push(word(KEY, header.key as u32));
+    strip.extend(header.white.map(|white| word(WHITE, white as u32)));
+    strip
+}
+
+pub fn end_word(header: &Header) -> u32 {
+    word(END, header.pixels() as u32)
+}
+
+/// A strip without its channels: the words before them, then "length 3".
 fn read_header(rules: &Rules, strip: &[u32]) -> Result<Header, Refusal> {
+    let header = read_front(rules, strip)?;
+    require(strip.len() == header.strip_length(), WRONG_LENGTH)?;
+    Ok(header)
+}
+
+/// The words before the channels: "fewer than two words is 3; then first word 7, size 1, second word 7, key 2"; for the
+/// white word "7 for spare bits, then 10 bad white .. both between key and length".
+fn read_front(rules: &Rules, strip: &[u32]) -> Result<Header, Refusal> {
     require(strip.len() >= 2, WRONG_LENGTH)?;
     require_at(kind(strip[0]) == SIZE, FOREIGN_WORD, 0)?;
     let (width, height) = (strip[0] as u64 >> 14 & 0x3FFF, strip[0] as u64 & 0x3FFF);
@@ -124,7 +149,6 @@ fn read_header(rules: &Rules, strip: &[u32]) -> Result<Header, Refusal> {
         header.white = read_white(strip)?;
         header.check_white()?;
     }
-    require(strip.len() == header.strip_length(), WRONG_LENGTH)?;
     Ok(header)
 }
 
@@ -147,15 +171,26 @@ fn check_words(strip: &[u32], header: &Header) -> Result<(), Refusal> {
         require_at(is_short_word(word, RED + (index % 3) as u32), FOREIGN_WORD, place)?;
         require_at(Channel::from_bits(word as u16).is_some(), WILD_CHANNEL, place)?;
     }
-    require_at(strip[end] == word(END, header.pixels() as u32), FOREIGN_WORD, end)
+    require_at(strip[end] == end_word(header), FOREIGN_WORD, end)
 }
 
 /// All checks of a strip; the output is lent where `room` is given and needs three elements a pixel.
 pub fn accept(rules: &Rules, strip: &[u32], room: Option<usize>) -> Result<Header, Refusal> {
     let header = read_header(rules, strip)?;
-    require(room.is_none_or(|room| room >= 3 * header.pixels()), SMALL_OUTPUT)?;
+    if let Some(room) = room {
+        header.check_room(room)?;
+    }
     check_words(strip, &header)?;
     Ok(header)
+}
+
+/// All checks of the strip that the row begins with, as long as its first words declare; 3 where the row cuts it short.
+pub fn accept_first<'a>(rules: &Rules, row: &'a [u32]) -> Result<(Header, &'a [u32]), Refusal> {
+    let header = read_front(rules, row)?;
+    require(row.len() >= header.strip_length(), WRONG_LENGTH)?;
+    let strip = &row[..header.strip_length()];
+    check_words(strip, &header)?;
+    Ok((header, strip))
 }
 
 /// The words of a row, "red word of its first pixel to blue of its last"; 20 comes before the words.
@@ -176,7 +211,7 @@ pub fn reader_step(rules: &Rules, strip: &[u32], n: u64) -> Result<Option<Pixel>
 }
 
 /// The channel words of a strip of the right length.
-fn channel_words<'a>(strip: &'a [u32], header: &Header) -> &'a [u32] {
+pub fn channel_words<'a>(strip: &'a [u32], header: &Header) -> &'a [u32] {
     &strip[header.front()..strip.len() - 1]
 }
 

@@ -23,23 +23,32 @@ pub struct Extremes {
 }
 
 impl Extremes {
-    /// Those of the lit pixels so far, if there was one, and of one more. Numbers of equal worth are the same number,
-    /// as 2M + 1 is odd.
-    fn with(before: Option<Extremes>, luminance: Number) -> Extremes {
-        let Some(Extremes { darkest, brightest }) = before else {
-            return Extremes {
-                darkest: luminance,
-                brightest: luminance,
-            };
-        };
+    /// Those of one lit pixel.
+    fn of(luminance: Number) -> Extremes {
         Extremes {
-            darkest: if luminance.by_worth(&darkest).is_lt() { luminance } else { darkest },
-            brightest: if luminance.by_worth(&brightest).is_gt() {
-                luminance
-            } else {
-                brightest
-            },
+            darkest: luminance,
+            brightest: luminance,
         }
+    }
+
+    /// Those of the lit pixels of two parts, either of which may have none. Numbers of equal worth are the same number,
+    /// as 2M + 1 is odd.
+    fn join(first: Option<Extremes>, second: Option<Extremes>) -> Option<Extremes> {
+        let (Some(first), Some(second)) = (first, second) else {
+            return first.or(second);
+        };
+        Some(Extremes {
+            darkest: if second.darkest.by_worth(&first.darkest).is_lt() {
+                second.darkest
+            } else {
+                first.darkest
+            },
+            brightest: if second.brightest.by_worth(&first.brightest).is_gt() {
+                second.brightest
+            } else {
+                first.brightest
+            },
+        })
     }
 }
 
@@ -51,6 +60,18 @@ pub struct Tally {
     pub sum: i64,
     pub average: Option<Average>,
     pub extremes: Option<Extremes>,
+}
+
+impl Tally {
+    fn new(lit: u64, sum: i64, extremes: Option<Extremes>, mantissa_table: &[u8]) -> Tally {
+        let average = if lit == 0 { None } else { Some(average(sum, lit, mantissa_table)) };
+        Tally {
+            lit,
+            sum,
+            average,
+            extremes,
+        }
+    }
 }
 
 /// "A pixel is lit if any of its three channel words is".
@@ -88,15 +109,20 @@ pub fn tally(pixels: impl Iterator<Item = Pixel>, steps_table: &[i64], mantissa_
     for luminance in pixels.filter_map(|pixel| luminance(&pixel)) {
         lit += 1;
         sum += steps(luminance, steps_table);
-        extremes = Some(Extremes::with(extremes, luminance));
+        extremes = Extremes::join(extremes, Some(Extremes::of(luminance)));
     }
-    let average = if lit == 0 { None } else { Some(average(sum, lit, mantissa_table)) };
-    Tally {
-        lit,
-        sum,
-        average,
-        extremes,
+    Tally::new(lit, sum, extremes, mantissa_table)
+}
+
+/// "Band tallies are joined": lit pixels and sums are added, and step 3 is taken of the joined sum.
+pub fn join(tallies: impl Iterator<Item = Tally>, mantissa_table: &[u8]) -> Tally {
+    let (mut lit, mut sum, mut extremes) = (0, 0, None);
+    for tally in tallies {
+        lit += tally.lit;
+        sum += tally.sum;
+        extremes = Extremes::join(extremes, tally.extremes);
     }
+    Tally::new(lit, sum, extremes, mantissa_table)
 }
 
 /// Step 3: "the sum of steps over the N lit pixels, divided by N, rounded toward minus infinity. Write A = 256q + f,

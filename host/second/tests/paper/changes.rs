@@ -1,5 +1,6 @@
 //! The switches: changes 2026-03, 2026-05, 2026-06 and 2026-07.
 
+use crate::bands::{all_cuttings, check_cutting};
 use crate::helpers::*;
 use second::{Header, Rules, SecondStep, Source, Tally};
 
@@ -68,6 +69,60 @@ fn dark_page_is_last() {
     *strip.last_mut().unwrap() += 1;
     assert_eq!(dark().tally(&strip), refused(7, 53));
     assert_eq!(dark().levels(&strip, 51), refused(7, 53));
+}
+
+/// A band of one column whose first pixels are lit.
+fn lit_column(lit: usize, height: usize) -> Vec<u32> {
+    let source = [vec![ONE; 3 * lit], vec![BLACK; 3 * (height - lit)]].concat();
+    let page = Header {
+        width: 1,
+        height: height as u64,
+        key: 180,
+        white: None,
+    };
+    dark().convert(Source::Half(&source), page, NO_ROOM_LIMIT).unwrap()
+}
+
+/// "For bands the rule looks at the joined tally only."
+#[test]
+fn dark_bands() {
+    for bands in [
+        [(1, 1), (0, 16)],
+        [(0, 16), (1, 1)],
+        [(0, 1), (0, 1)],
+        [(1, 17), (1, 16)],
+        [(1, 8), (1, 25)],
+    ] {
+        let row = bands.map(|(lit, height)| lit_column(lit, height)).concat();
+        assert_eq!(dark().tally_of_bands(&row), refused(9, 0));
+        assert_eq!(dark().levels_of_bands(&row, NO_ROOM_LIMIT), refused(9, 0));
+        assert!(dark().header_of_bands(&row).is_ok() && dark().tall_strip(&row).is_ok());
+        assert!(base().tally_of_bands(&row).is_ok());
+    }
+    for bands in [[(1, 1), (0, 15)], [(0, 15), (1, 1)], [(1, 17), (1, 15)], [(1, 8), (1, 24)]] {
+        let row = bands.map(|(lit, height)| lit_column(lit, height)).concat();
+        assert!(dark().tally_of_bands(&row).is_ok());
+        assert_eq!(dark().tally_of_bands(&row), base().tally_of_bands(&row));
+        assert_eq!(
+            dark().levels_of_bands(&row, NO_ROOM_LIMIT),
+            base().levels_of_bands(&row, NO_ROOM_LIMIT)
+        );
+    }
+}
+
+/// 9 comes "after every word has passed", of all bands, and "the tray is checked last".
+#[test]
+fn dark_bands_in_order() {
+    let mut row = [lit_column(0, 1), lit_column(0, 1)].concat();
+    assert_eq!(dark().levels_of_bands(&row, 0), refused(9, 0));
+    row[7] = 0x200000B5;
+    assert_eq!(dark().levels_of_bands(&row, 0), refused(21, 0));
+    assert_eq!(dark().tally_of_bands(&row), refused(21, 0));
+    row[11] = 0;
+    assert_eq!(dark().tally_of_bands(&row), refused(7, 11));
+    assert_eq!(dark().tally_of_bands(&row[..7]), refused(3, 0));
+    let row = [lit_column(1, 1), lit_column(0, 15)].concat();
+    assert_eq!(dark().levels_of_bands(&row, 47), refused(4, 0));
 }
 
 const WHITE_EXAMPLE: [u32; 7] = [0x10004001, 0x200003E8, 0x30000014, 0x400080FF, 0x500080FF, 0x600080FF, 0x70000001];
@@ -199,6 +254,96 @@ fn second_white_word() {
     assert_eq!(white().check(&strip), refused(7, 3));
 }
 
+/// "Joined bands must agree in W, or in having none, else 21; the word counts in where the next band begins." The average
+/// of two greys 1.0 is that of one, and so are the levels.
+#[test]
+fn white_bands() {
+    let joined = Header {
+        height: 2,
+        ..white_header(Some(20))
+    };
+    let row = WHITE_EXAMPLE.repeat(2);
+    let tall = [&[0x10004002], &WHITE_EXAMPLE[1..6], &WHITE_EXAMPLE[3..6], &[0x70000002]].concat();
+    assert_eq!(white().header_of_bands(&row), Ok(joined));
+    assert_eq!(white().levels_of_bands(&row, 6), Ok(vec![159; 6]));
+    assert_eq!(white().levels_of_bands(&row, 5), refused(4, 0));
+    assert_eq!(white().tall_strip(&row), Ok(tall.clone()));
+    assert_eq!(white().cut(&tall, &[1, 1]), row);
+    assert!(white().header_of_bands(&white_page(None).repeat(2)).is_ok());
+    for (first, second) in [(Some(20), Some(21)), (Some(20), None), (None, Some(20)), (Some(1000), Some(10))] {
+        let row = [white_page(first), white_page(second)].concat();
+        assert_eq!(white().header_of_bands(&row), refused(21, 0));
+        assert_eq!(white().tally_of_bands(&row), refused(21, 0));
+        assert_eq!(white().levels_of_bands(&row, 0), refused(21, 0));
+    }
+}
+
+#[test]
+fn white_bands_in_order() {
+    let with = |place: usize, word: u32| {
+        let mut row = WHITE_EXAMPLE.repeat(2);
+        row[place] = word;
+        row
+    };
+    for start in [0, 7] {
+        let place = start as u64;
+        assert_eq!(white().tally_of_bands(&with(start + 2, 0x30000009)), refused(10, 0));
+        assert_eq!(white().tally_of_bands(&with(start + 2, 0x30000009)[..start + 3]), refused(10, 0));
+        assert_eq!(white().tally_of_bands(&with(start + 2, 0x30010014)), refused(7, place + 2));
+        assert_eq!(
+            white().tally_of_bands(&with(start + 2, 0x30010014)[..start + 3]),
+            refused(7, place + 2)
+        );
+        assert_eq!(white().tally_of_bands(&with(start + 4, 0x50000001)), refused(8, place + 4));
+        assert_eq!(white().tally_of_bands(&with(start + 6, 0)), refused(7, place + 6));
+        for length in 1..7 {
+            assert_eq!(white().tally_of_bands(&WHITE_EXAMPLE.repeat(2)[..start + length]), refused(3, 0));
+        }
+    }
+    let mut row = with(9, 0x30000015);
+    assert_eq!(white().tally_of_bands(&row), refused(21, 0));
+    row[11] = 0x50000001;
+    assert_eq!(white().tally_of_bands(&row), refused(8, 11));
+}
+
+/// With the switch off the word is a foreign one, as the band is split by the size word alone.
+#[test]
+fn white_bands_switched_off() {
+    assert_eq!(base().tally_of_bands(&WHITE_EXAMPLE), refused(7, 2));
+    assert_eq!(
+        base().tally_of_bands(&[white_page(None), WHITE_EXAMPLE.to_vec()].concat()),
+        refused(7, 8)
+    );
+}
+
+/// Bands are as the tall strip under all switches.
+#[test]
+fn cuttings_under_every_rule() {
+    let mut generator = Generator::new(13);
+    for bits in 0..16 {
+        let step = SecondStep::new(Rules {
+            dark_page: bits & 1 != 0,
+            white_word: bits & 2 != 0,
+            nearest_steps: bits & 4 != 0,
+            screen_curve: bits & 8 != 0,
+        });
+        for white in [None, Some(10 + generator.below(991))] {
+            let page = Header {
+                width: 2,
+                height: 5,
+                key: 1 + generator.below(1000),
+                white,
+            };
+            for source in [generator.page(10), vec![BLACK; 30]] {
+                let strip = step.convert(Source::Stored(&source), page, NO_ROOM_LIMIT).unwrap();
+                for heights in all_cuttings(5) {
+                    check_cutting(&step, &strip, &heights);
+                }
+            }
+        }
+    }
+}
+
 /// "without it nothing differs".
 #[test]
 fn without_the_white_word() {
@@ -226,6 +371,14 @@ fn nearest_average() {
     let Tally { sum, average, .. } = nearest().tally(&strip).unwrap();
     let average = average.unwrap();
     assert_eq!((sum, average.steps, average.exponent, average.mantissa), (1943, 1943, 136, 192));
+}
+
+/// Two bands of that pixel have twice its steps.
+#[test]
+fn nearest_bands() {
+    let row = stored_strip(&nearest(), &grey(&[stored(136, 192)]), 180, None).repeat(2);
+    let tally = nearest().tally_of_bands(&row).unwrap();
+    assert_eq!((tally.lit, tally.sum, tally.average.unwrap().steps), (2, 3886, 1943));
 }
 
 /// Document 01's program "now ends 70 70 70 50 50 50"; "Level 39 prints as 95"; mapping keeps its levels.

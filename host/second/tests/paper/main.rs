@@ -1,5 +1,6 @@
 //! The papers' figures and rules, through the public calls.
 
+mod bands;
 mod changes;
 mod examples;
 mod extremes;

@@ -230,6 +230,11 @@ fn nothing_panics() {
                 step.reader_step(&strip, generator.below(3)),
             );
             let _ = (step.mean_holds(&strip, -129), step.mean_above(&strip, -129));
+            let row = [&EXAMPLE, &strip[..], &EXAMPLE].concat();
+            for row in [&strip[..], &row, &row[..row.len() - 9]] {
+                let _ = (step.header_of_bands(row), step.tally_of_bands(row));
+                let _ = (step.levels_of_bands(row, generator.below(20) as usize), step.tall_strip(row));
+            }
         }
         for _ in 0..2000 {
             let source: Vec<u32> = (0..3).map(|_| generator.next() as u32).collect();
