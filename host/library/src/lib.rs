@@ -104,6 +104,7 @@ pub enum Source<'a> {
 
 /// The largest width and height.
 pub const MAX_SIDE: usize = 8192;
+/// The most pixels.
 pub const MAX_PIXELS: usize = 16_777_216;
 
 /// The number of words of the strip of a page.
