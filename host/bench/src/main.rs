@@ -1,5 +1,6 @@
-//! Times the library beside the conventional method in double precision, on one thread and on the same pages.
+//! Times the library beside the conventional method in double precision, on one thread and on the same pages, and bands beside a strip.
 
+mod bands;
 mod clock;
 mod double;
 mod machine;
@@ -19,6 +20,7 @@ fn main() {
     println!("pages of halves, seed {SEED}, key {KEY}; best of the rounds, nanoseconds a pixel\n");
     run(8192, 2048, 8);
     run(100, 50, 2000);
+    bands::run(2048, 8192, 8);
     println!("peak memory of the run (VmHWM): {} MiB", machine::peak_memory() >> 20);
 }
 

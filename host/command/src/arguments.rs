@@ -18,6 +18,13 @@ pub enum Picture {
     Pfm,
 }
 
+/// The file of a page's strip, or the files of its bands.
+#[derive(Debug, PartialEq)]
+pub enum Files {
+    Strip(OsString),
+    Bands(Vec<OsString>),
+}
+
 #[derive(Debug, PartialEq)]
 pub enum Command {
     Help(&'static str),
@@ -28,10 +35,10 @@ pub enum Command {
         strip: OsString,
     },
     Tally {
-        strip: OsString,
+        page: Files,
     },
     Map {
-        strip: OsString,
+        page: Files,
         picture: OsString,
     },
     Row {
@@ -40,7 +47,12 @@ pub enum Command {
         output: OsString,
     },
     Info {
+        page: Files,
+    },
+    Cut {
         strip: OsString,
+        rows: u64,
+        prefix: OsString,
     },
 }
 
@@ -59,6 +71,7 @@ pub fn parse(arguments: &[OsString]) -> Result<Command, String> {
         Some("map") => (help::MAP, map),
         Some("row") => (help::ROW, row),
         Some("info") => (help::INFO, info),
+        Some("cut") => (help::CUT, cut),
         _ => return Err(format!("no command {}; see dofnihet --help", name.display())),
     };
     if rest.iter().any(|argument| argument == "--help") {
@@ -98,13 +111,16 @@ fn picture(kind: &OsStr, width: Option<u64>, height: Option<u64>) -> Result<Pict
 }
 
 fn tally(arguments: &[OsString]) -> Result<Command, String> {
-    let [strip] = exactly(sort(arguments, [])?.0, "a strip")?;
-    Ok(Command::Tally { strip })
+    let (words, bands) = words_and_bands(arguments)?;
+    let page = files(words, bands, "")?;
+    Ok(Command::Tally { page })
 }
 
 fn map(arguments: &[OsString]) -> Result<Command, String> {
-    let [strip, picture] = exactly(sort(arguments, [])?.0, "a strip and a picture")?;
-    Ok(Command::Map { strip, picture })
+    let (mut words, bands) = words_and_bands(arguments)?;
+    let picture = words.pop().unwrap_or_default();
+    let page = files(words, bands, " and a picture")?;
+    Ok(Command::Map { page, picture })
 }
 
 fn row(arguments: &[OsString]) -> Result<Command, String> {
@@ -114,8 +130,40 @@ fn row(arguments: &[OsString]) -> Result<Command, String> {
 }
 
 fn info(arguments: &[OsString]) -> Result<Command, String> {
-    let [strip] = exactly(sort(arguments, [])?.0, "a strip")?;
-    Ok(Command::Info { strip })
+    let (words, bands) = words_and_bands(arguments)?;
+    let page = files(words, bands, "")?;
+    Ok(Command::Info { page })
+}
+
+fn cut(arguments: &[OsString]) -> Result<Command, String> {
+    let [strip, rows, prefix] = exactly(sort(arguments, [])?.0, "a strip, a number of rows and a prefix")?;
+    let rows = number(&rows, "the number of rows")?;
+    if rows == 0 {
+        return Err("a band has one row or more".to_string());
+    }
+    if prefix == "-" {
+        return Err("bands are files, and - is none".to_string());
+    }
+    Ok(Command::Cut { strip, rows, prefix })
+}
+
+/// The files of a page: one word, or with --bands one or more. `behind` is what is wanted besides.
+fn files(mut words: Vec<OsString>, bands: bool, behind: &str) -> Result<Files, String> {
+    match words.len() {
+        1.. if bands => Ok(Files::Bands(words)),
+        1 => Ok(Files::Strip(words.remove(0))),
+        _ if bands => Err(format!("wanted: one strip or more{behind}")),
+        _ => Err(format!("wanted: a strip{behind}")),
+    }
+}
+
+/// Sorts arguments into words and whether --bands is among them.
+fn words_and_bands(arguments: &[OsString]) -> Result<(Vec<OsString>, bool), String> {
+    let (flags, others): (Vec<_>, Vec<_>) = arguments.iter().cloned().partition(|argument| argument == "--bands");
+    if flags.len() > 1 {
+        return Err("--bands is given twice".to_string());
+    }
+    Ok((sort(&others, [])?.0, !flags.is_empty()))
 }
 
 /// Sorts arguments into words and the numbers of the options named.

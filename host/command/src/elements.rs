@@ -48,7 +48,6 @@ pub fn fill(input: &mut dyn Read, buffer: &mut [u8]) -> io::Result<usize> {
 /// Appends elements until there are `count` or the input ends; answers how many bytes of a last, partial element were read.
 pub fn append<T: Element>(input: &mut dyn Read, elements: &mut Vec<T>, count: usize) -> io::Result<usize> {
     let mut block = [0; BLOCK];
-    elements.reserve_exact(count.saturating_sub(elements.len()));
     while elements.len() < count {
         let wanted = BLOCK.min((count - elements.len()) * T::BYTES);
         let filled = fill(input, &mut block[..wanted])?;

@@ -8,13 +8,15 @@ use std::io;
 #[derive(Debug)]
 pub enum Failure {
     Refused(Refusal),
+    /// A refusal of bands, and where: the file, or the word in it.
+    RefusedIn(Refusal, String),
     Wrong(String),
 }
 
 impl Failure {
     pub fn status(&self) -> u8 {
         match self {
-            Failure::Refused(_) => 1,
+            Failure::Refused(_) | Failure::RefusedIn(..) => 1,
             Failure::Wrong(_) => 2,
         }
     }
@@ -29,6 +31,7 @@ impl fmt::Display for Failure {
     fn fmt(&self, f: &mut fmt::Formatter) -> fmt::Result {
         match self {
             Failure::Refused(refusal) => write!(f, "{refusal} {}", refusal.word()),
+            Failure::RefusedIn(refusal, file) => write!(f, "{refusal} {}: {file}", refusal.word()),
             Failure::Wrong(text) => write!(f, "dofnihet: {text}"),
         }
     }

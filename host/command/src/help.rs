@@ -6,9 +6,13 @@ Dofnihet stores a high-dynamic-range page as a strip of 32-bit words, tallies it
     dofnihet convert rgbe|half|single|stored --width W --height H --key K SOURCE STRIP
     dofnihet convert pfm --key K SOURCE STRIP
     dofnihet tally STRIP
+    dofnihet tally --bands STRIP..
     dofnihet map STRIP PICTURE
+    dofnihet map --bands STRIP.. PICTURE
     dofnihet row STRIP Y OUTPUT
     dofnihet info STRIP
+    dofnihet info --bands STRIP..
+    dofnihet cut STRIP ROWS PREFIX
     dofnihet COMMAND --help
 
 - stands for standard input or output; a file whose name begins with - is written ./-name. An output file appears whole or not
@@ -16,6 +20,16 @@ at all, and only where everything is accepted. An output that is standard output
 
 A strip is read to its end, since its byte count decides first: one whose byte count is no multiple of four is refused with 3,
 place 0, before any word is looked at.
+
+With --bands a page is given as bands of whole rows, the top one first, each a strip with the same width and key. The files are read
+one behind another into one row of words; each size word tells where the next band begins. An empty file is refused with 3 too. A
+place counts from the row's start. Behind the refusal stand the file and, where it has a place, the word in that file, from 0 on:
+
+    refused 8 24 wild channel: b.strip word 6
+    refused 21 0 unlike bands: b.strip
+
+21 is a width or key unlike the first band's, or bands that are too large together. A strip that is cut short takes the words of the
+next file for its own, so that word 0 of that file is foreign; where the row ends before the strip does, it is refused with 3.
 
 Exit status: 0 accepted; 1 refused, with a line such as 'refused 3 0 wrong length' (number, place, word) on standard error;
 2 wrong usage, a file that cannot be read or written, or no PFM file.
@@ -44,8 +58,9 @@ either kind.
 
 pub const TALLY: &str = "\
 dofnihet tally STRIP
+dofnihet tally --bands STRIP..
 
-Prints what the lit pixels of a page are like:
+Prints what the lit pixels of a page are like, or of the page that all bands are together:
 
     lit 2
     sum -258
@@ -75,8 +90,10 @@ as 90.
 
 pub const MAP: &str = "\
 dofnihet map STRIP PICTURE
+dofnihet map --bands STRIP.. PICTURE
 
-Maps a strip to levels from 0 to 255 and writes them as a Netpbm P6 picture.
+Maps a strip to levels from 0 to 255 and writes them as a Netpbm P6 picture. Bands become one picture, under the average of all: that
+of the page that they are cut from.
 ";
 
 pub const ROW: &str = "\
@@ -87,11 +104,24 @@ Writes the words of row Y, counted from 0 at the top: red, green and blue of eac
 
 pub const INFO: &str = "\
 dofnihet info STRIP
+dofnihet info --bands STRIP..
 
-Checks a strip and prints its width, height, key and number of pixels:
+Checks a strip, or all bands, and prints width, height, key and number of pixels of the page:
 
     width 2
     height 1
     key 180
     pixels 2
+";
+
+pub const CUT: &str = "\
+dofnihet cut STRIP ROWS PREFIX
+
+Cuts a strip into bands of ROWS rows, 1 or more; the last may have fewer. Each becomes a file, named by PREFIX, a number from 1 on
+and '.strip'. The numbers have leading zeros, at least three digits in all, so that names in order are bands in order:
+
+    dofnihet cut page.strip 64 map-
+    dofnihet map --bands map-*.strip page.ppm
+
+Where the strip is refused, no file is written. Where a file cannot be written, those before it stay.
 ";

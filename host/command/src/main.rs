@@ -1,22 +1,28 @@
 //! The command line of Dofnihet: it moves bytes between files and the proved library, which makes every decision about a page.
 //!
 //! Peak memory of a page, beside the program and its buffers, which are 2 MiB: `convert` holds source and strip, 12 + 4 (RGBE), 6 (half,
-//! stored) or 12 (single, PFM) bytes a pixel; `map` holds strip and levels, 12 + 3 bytes a pixel; the other commands hold the strip.
-//! Measured on 16,777,216 pixels: 258, 290 and 386 MiB for `convert`, 242 MiB for `map`, 194 MiB for the others.
+//! stored) or 12 (single, PFM) bytes a pixel; `map` holds strip and levels, 12 + 3 bytes a pixel; `cut` holds strip and channels, 12 + 6
+//! bytes a pixel; the other commands hold the strip. Bands take what their page's strip takes, and twelve bytes a band.
+//! Measured on 16,777,216 pixels: 258, 290 and 386 MiB for `convert`, 242 MiB for `map`, 290 MiB for `cut`, 194 MiB for the others.
+//! Files with more words than any accepted bands have take 386 MiB, however long they are.
 
 mod arguments;
+mod bands;
+mod cut;
 mod elements;
 mod failure;
 mod files;
 mod help;
+mod page;
 mod pfm;
 mod source;
 mod strip;
 mod tally;
 mod worth;
 
-use arguments::{Command, Picture};
+use arguments::{Command, Files, Picture};
 use failure::Failure;
+use page::Page;
 use std::env;
 use std::ffi::OsStr;
 use std::io::{self, Write};
@@ -43,10 +49,11 @@ fn run(command: Command) -> Result<(), Failure> {
             source,
             strip,
         } => convert(picture, key, &source, &strip),
-        Command::Tally { strip } => tally(&strip),
-        Command::Map { strip, picture } => map(&strip, &picture),
+        Command::Tally { page } => tally(&page),
+        Command::Map { page, picture } => map(&page, &picture),
         Command::Row { strip, y, output } => row(&strip, y, &output),
-        Command::Info { strip } => info(&strip),
+        Command::Info { page } => info(&page),
+        Command::Cut { strip, rows, prefix } => cut::write(strip::read(&strip)?, rows, &prefix),
     }
 }
 
@@ -62,17 +69,17 @@ fn convert(picture: Picture, key: u64, source: &OsStr, strip: &OsStr) -> Result<
     files::write(strip, |output| elements::write_words(output, &words))
 }
 
-fn tally(strip: &OsStr) -> Result<(), Failure> {
-    let tally = dofnihet::tally(&strip::read(strip)?)?;
+fn tally(page: &Files) -> Result<(), Failure> {
+    let tally = Page::read(page)?.tally()?;
     print(&tally::text(&tally))
 }
 
-fn map(strip: &OsStr, picture: &OsStr) -> Result<(), Failure> {
-    let words = strip::read(strip)?;
-    let header = dofnihet::header(&words)?;
+fn map(page: &Files, picture: &OsStr) -> Result<(), Failure> {
+    let page = Page::read(page)?;
+    let header = page.header()?;
     let mut levels = vec![0; 3 * (header.width * header.height) as usize];
-    dofnihet::map(&words, &mut levels)?;
-    drop(words);
+    page.map(&mut levels)?;
+    drop(page);
     files::write(picture, |output| {
         output.write_all(&dofnihet::front(header.width, header.height))?;
         output.write_all(&levels)
@@ -85,8 +92,8 @@ fn row(strip: &OsStr, y: u64, output: &OsStr) -> Result<(), Failure> {
     files::write(output, |output| elements::write_words(output, row))
 }
 
-fn info(strip: &OsStr) -> Result<(), Failure> {
-    let header = dofnihet::header(&strip::read(strip)?)?;
+fn info(page: &Files) -> Result<(), Failure> {
+    let header = Page::read(page)?.header()?;
     let pixels = header.width * header.height;
     print(&format!(
         "width {}\nheight {}\nkey {}\npixels {pixels}\n",

@@ -63,7 +63,7 @@ fn pixels(header: Header) -> usize {
 
 /// Reads a whole input of `count` elements; none where it is shorter or longer.
 fn exactly<T: Element>(input: &mut dyn Read, count: usize) -> io::Result<Option<Vec<T>>> {
-    let mut elements = Vec::new();
+    let mut elements = Vec::with_capacity(count);
     append(input, &mut elements, count)?;
     Ok((elements.len() == count && at_end(input)?).then_some(elements))
 }

@@ -18,6 +18,7 @@ fn words(input: &mut dyn Read) -> io::Result<Vec<u32>> {
     let mut words = Vec::new();
     let mut left_over = append(input, &mut words, 2)? as u64;
     let kept = kept(&words);
+    words.reserve_exact(kept - words.len());
     left_over += append(input, &mut words, kept)? as u64;
     left_over += io::copy(input, &mut io::sink())?;
     if !left_over.is_multiple_of(4) {

@@ -1,7 +1,9 @@
 //! The built program, run on pages of every kind.
 
+mod bands;
 mod commands;
 mod common;
+mod cut;
 mod examples;
 mod memory;
 mod pfm;

@@ -1,6 +1,6 @@
-//! The peak memory: source and strip for convert, strip and levels for map.
+//! The peak memory: source and strip for convert, strip or bands and levels for map.
 
-use crate::common::{bytes32, Folder, PROGRAM};
+use crate::common::{accepted, bytes32, Folder, PROGRAM};
 use std::fs;
 use std::io::Read;
 use std::process::{Command, Stdio};
@@ -38,4 +38,9 @@ fn no_more_than_source_strip_and_levels() {
     let (bytes, picture) = peak(&["map", &strip, "-"]);
     assert!(bytes < (12 + 3) * PIXELS + SLACK, "map: {bytes}");
     assert_eq!(picture.len() as u64, "P6\n2048 2048\n255\n".len() as u64 + 3 * PIXELS);
+    accepted(&["cut", &strip, "512", &folder.path("map-")], &[]);
+    let bands: Vec<String> = (1..=4).map(|n| folder.path(&format!("map-00{n}.strip"))).collect();
+    let (bytes, joined) = peak(&["map", "--bands", &bands[0], &bands[1], &bands[2], &bands[3], "-"]);
+    assert!(bytes < (12 + 3) * PIXELS + SLACK, "map --bands: {bytes}");
+    assert!(joined == picture);
 }

@@ -42,6 +42,23 @@ fn wrong_usage() {
             "wanted: a strip, a row number and an output; see dofnihet row --help",
         ),
         (vec!["row", "-", "top", "-"], "the row number is no whole number: top; see"),
+        (vec!["row", "--bands", "-", "0", "-"], "no option --bands; see dofnihet row --help"),
+        (vec!["tally", "--bands"], "wanted: one strip or more; see dofnihet tally --help"),
+        (vec!["info", "--bands"], "wanted: one strip or more; see dofnihet info --help"),
+        (vec!["info", "-", "--bands", "--bands"], "--bands is given twice; see"),
+        (
+            vec!["map", "--bands"],
+            "wanted: one strip or more and a picture; see dofnihet map --help",
+        ),
+        (vec!["map", "-", "--bands"], "wanted: one strip or more and a picture; see"),
+        (vec!["map", "--bands", "--key", "-", "-"], "no option --key; see"),
+        (
+            vec!["cut", "-", "7"],
+            "wanted: a strip, a number of rows and a prefix; see dofnihet cut --help",
+        ),
+        (vec!["cut", "-", "0", "map-"], "a band has one row or more; see"),
+        (vec!["cut", "-", "7.5", "map-"], "the number of rows is no whole number: 7.5; see"),
+        (vec!["cut", "-", "7", "-"], "bands are files, and - is none; see"),
     ];
     for (arguments, beginning) in cases {
         wrong(&arguments, &[], beginning);
@@ -51,11 +68,12 @@ fn wrong_usage() {
 #[test]
 fn help() {
     let all = text(&["--help"], &[]);
-    for command in ["convert", "tally", "map", "row", "info"] {
+    for command in ["convert", "tally", "map", "row", "info", "cut"] {
         let help = text(&[command, "--help"], &[]);
-        let usage = help.lines().next().unwrap();
-        assert!(usage.starts_with(&format!("dofnihet {command} ")), "{usage}");
-        assert!(all.contains(&format!("    {usage}\n")), "{usage}");
+        for usage in help.lines().take_while(|line| !line.is_empty()) {
+            assert!(usage.starts_with(&format!("dofnihet {command} ")), "{usage}");
+            assert!(all.contains(&format!("    {usage}\n")), "{usage}");
+        }
         assert_eq!(text(&[command, "-", "--key", "--help"], &[]), help);
     }
     assert!(text(&["convert", "--help"], &[]).contains("no float is multiplied by it"));
