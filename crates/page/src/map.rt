@@ -3,7 +3,6 @@ ghost use mathlib.Core.Path.{_≡_};
 ghost use Prim.Native.Nat.{_≤_};
 ghost use lib.ListN.{length, replicate};
 ghost use Rattle.refusal.specs.Output.{onto, after};
-ghost use Rattle.strip.specs.Checks.{headerFields};
 ghost use Rattle.page.specs.Checks.{checkMap};
 ghost use Rattle.page.specs.Mapping.{toneOf, stripLevels};
 ghost use Rattle.page.specs.Claims.{MapPromise};
@@ -16,23 +15,23 @@ use number::ratio::Stored;
 use refusal::Verdict;
 use strip::check::check_output;
 use strip::read::body;
+use strip::read::header_fields;
 use tone::tone::Tone;
-use word::header::low_half;
+use word::header::Header;
 use word::header::pixel_count;
 
-// What a strip is mapped under: its key, and an average.
-fn tone_of(strip: &[u32], average: Stored) -> Tone
-    requires { ⌜ 2 ≤ length (now strip) ⌝ }
-    ensures { λ r. ⌜ r ≡ toneOf (headerFields (now (strip .entry))) average ⌝ }
+// What a page is mapped under: its key, and an average.
+pub fn tone_of(header: Header, average: Stored) -> Tone
+    ensures { λ r. ⌜ r ≡ toneOf header average ⌝ }
 {
     Tone {
-        key: low_half(strip[1]) as u64,
+        key: header.key,
         average: average,
     }
 }
 
 // Level 0 in the first `count` bytes of the output.
-fn clear_levels(count: usize, output: &mut [u8])
+pub fn clear_levels(count: usize, output: &mut [u8])
     requires { ⌜ count ≤ length (now output) ⌝ }
     ensures { λ _. ⌜ now (output .exit) ≡ onto (replicate count 0) (now (output .entry)) ⌝ }
 {
@@ -59,6 +58,6 @@ pub fn map(strip: &[u32], output: &mut [u8]) -> Verdict
         clear_levels(3 * pixel_count(strip[0]), output);
         return Verdict::Accepted;
     };
-    map_levels(body(strip), tone_of(strip, average), output);
+    map_levels(body(strip), tone_of(header_fields(strip), average), output);
     Verdict::Accepted
 }

@@ -1,3 +1,4 @@
 pub mod Limits
 pub mod Bodies
 pub mod RoundTrip
+pub mod Places

@@ -56,7 +56,7 @@ pub fn declared_length(row: &[u32]) -> usize
 }
 
 // An index, but not beyond the end of a row of so many words.
-fn within(i: usize, length: usize) -> usize
+pub fn within(i: usize, length: usize) -> usize
     ensures { λ r. ⌜ r ≡ min i length ⌝ }
 {
     if i < length { i } else { length }
@@ -69,6 +69,17 @@ pub fn body(row: &[u32]) -> &[u32]
     let start = within(body_start(row), row.len());
     let end = within(end_index(row), row.len());
     &row[start..end]
+}
+
+// The header that its first words declare.
+pub fn header_fields(row: &[u32]) -> Header
+    ensures { λ r. ⌜ r ≡ headerFields (now (row .entry)) ⌝ }
+{
+    Header {
+        width: width_in(word_at(row, 0)) as u64,
+        height: height_in(word_at(row, 0)) as u64,
+        key: low_half(word_at(row, 1)) as u64,
+    }
 }
 
 // The header of an accepted strip, or its refusal with the index where it was found.
@@ -84,11 +95,7 @@ pub fn header(strip: &[u32]) -> HeaderOrRefusal
 {
     let verdict = check(strip);
     match verdict {
-        Verdict::Accepted => HeaderOrRefusal::Holds(Header {
-            width: width_in(strip[0]) as u64,
-            height: height_in(strip[0]) as u64,
-            key: low_half(strip[1]) as u64,
-        }),
+        Verdict::Accepted => HeaderOrRefusal::Holds(header_fields(strip)),
         Verdict::Refused(refusal, i) => HeaderOrRefusal::Refuses(refusal, i),
     }
 }

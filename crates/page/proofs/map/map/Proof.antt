@@ -81,20 +81,22 @@ returns-2 c =
 map-levels-requires : tie.Need-map-levels-requires
 map-levels-requires c κs =
     let f = c .before in
-    let b = f .before in
+    let h = f .before in
+    let b = h .before in
     let v = b .before .before in
     let a = v .before .before in
     let t = a .before .before .before .before in
     let e = t .before .before .before in
     let q = limits e .strip in
-    rw (b .body2 .ensures, f .tone-of .ensures)
+    rw (b .body2 .ensures, f .tone-of .ensures, h .header-fields .ensures)
     (strip-body _ q, strip-tone _ q (sym (average a) ∙ v .average .given .1), strip-indices _ q _ (told t .1))
 
 returns-3 : tie.Need-returns-3
 returns-3 c =
     let l = c .before .before in
     let f = l .before .before in
-    let b = f .before in
+    let h = f .before in
+    let b = h .before in
     let v = b .before .before in
     let a = v .before .before in
     let t = a .before .before .before .before in
@@ -102,7 +104,7 @@ returns-3 c =
     let args = e .before .before .before .before .before .args in
     let q = limits e .strip in
     let some = sym (average a) ∙ v .average .given .1 in
-    let made = rw (b .body2 .ensures, f .tone-of .ensures, ← pixels-in (now (args .strip)) (q .channels), levels-present _ q some)
+    let made = rw (b .body2 .ensures, f .tone-of .ensures, h .header-fields .ensures, ← pixels-in (now (args .strip)) (q .channels), levels-present _ q some)
     at (l .map-levels .ensures) in
     filled _ (now (args .output)) _ (sym (ok e)) (made ∙ over-indices _ q _ (told t .1))
 
@@ -115,5 +117,4 @@ map-spec =
     (λ c. omega (arith, limits (c .before .before .before .before .before .before .before .before .before .before) .strip .head .long)) (λ c κs. search needs)
     (λ c. omega (arith, c .pixel-count .ensures, limits (c .before .before .before .before .before .before .before .before .before .before .before) .fits))
     clear-levels-requires (λ c. search needs) returns-2 (λ c κs. search needs)
-    (λ c κs. omega (arith, limits (c .before .before .before .before .before .before .before .before .before .before .before) .strip .head .long))
-    map-levels-requires (λ c. search needs) returns-3)
+    (λ c κs. search needs) (λ c κs. search needs) map-levels-requires (λ c. search needs) returns-3)

@@ -1,0 +1,5 @@
+pub mod Checks
+pub mod Joining
+pub mod Cutting
+pub mod Claims
+pub mod loops

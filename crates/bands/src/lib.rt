@@ -1,0 +1,1 @@
+// A page in bands: checked, its header read, tallied and mapped as one tall page.

@@ -1,0 +1,3 @@
+-- for the crates above
+pub mod Laws
+pub mod Strips
