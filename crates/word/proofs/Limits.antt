@@ -9,7 +9,7 @@ use Rattle.word.specs.declared.header.Header.{Header}
 use Rattle.word.specs.Words.{sizeFits, keyFits, bodyStart}
 use Rattle.word.specs.Fields.{widthIn, heightIn}
 
-both-true : (a b : Bool) → (a && b) ≡ true → (a ≡ true) × (b ≡ true)
+pub both-true : (a b : Bool) → (a && b) ≡ true → (a ≡ true) × (b ≡ true)
 both-true true b e = (refl, e)
 both-true false b e = (cc, cc)
 

@@ -1,0 +1,133 @@
+-- What an accepted row of bands keeps to. Assumes nothing.
+use Prim.Native.Nat.{ℕ, _+_, _*_, _≤_, _<_}
+use mathlib.Core.Path.{_≡_, refl, sym, ap, _∙_}
+use mathlib.Core.Bool.{true}
+use mathlib.Core.List.{List, [], _∷_, _++_, flatMap}
+use native.Mathlib.Nat.{zero-add}
+use native.Mathlib.Omega.{arith}
+use borrow.Author.Tests.{eqb-true, leb-true}
+use lib.ListN.{length, replicate, length-append, replicate-append-replicate}
+use Rattle.number.proofs.Laws.{Every}
+use Rattle.refusal.specs.declared.Verdict.the-variants.{Accepted}
+use Rattle.refusal.proofs.Laws.{require-passed, and-passed}
+use Rattle.word.specs.declared.header.Header.{Header}
+use Rattle.word.specs.Words.{sizeFits}
+use Rattle.word.proofs.Limits.{both-true, size-limits}
+use Rattle.strip.specs.Checks.{headerFields}
+use Rattle.strip.specs.Reading.{stripPixels}
+use Rattle.strip.proofs.Limits.{Whole, whole-strip}
+use Rattle.strip.proofs.RoundTrip.{count-pixels}
+use Rattle.average.specs.declared.average.Average.{Average}
+use Rattle.average.specs.declared.average.Average.the-variants.{Absent, Present}
+use Rattle.average.specs.Tallies.{tallyOf, join}
+use Rattle.body.specs.Luminances.{luminancesOf}
+use Rattle.body.proofs.Laws.{tally-join, levels-append}
+use Rattle.page.specs.Tallying.{stripLuminances}
+use Rattle.page.specs.Mapping.{toneOf, pageLevels}
+use Rattle.series.specs.Series.{Standing, seriesOf}
+use Rattle.series.proofs.Laws.{standing-accepted, series-next}
+use Rattle.bands.specs.Checks.{bandHeader, joins, checkBand, checkEach, checkBands, joinedRows}
+use Rattle.bands.specs.Joining.{joinTallies, bandLevels}
+use Rattle.bands.specs.loops.Walks.{rowPixels}
+
+-- ---- one band
+
+pub record IsBand (first : Header) (b : Standing) : Type 0 where
+  pub whole : Whole (b .strip)
+  pub width : bandHeader b .width ≡ first .width
+  pub key : bandHeader b .key ≡ first .key
+
+pub record Joined (first : Header) (rows : ℕ) (b : Standing) : Type 0 where
+  pub band : IsBand first b
+  pub fits : sizeFits (first .width) (rows + bandHeader b .height) ≡ true
+
+pub band-accepted : (first : Header) (rows : ℕ) (b : Standing) → checkBand first rows b ≡ Accepted → Joined first rows b
+unfolding checkBand joins
+band-accepted first rows b e =
+    let a = and-passed _ _ e in
+    let p = both-true _ _ (require-passed _ _ _ _ (a .1) .0) in
+    let q = both-true _ _ (p .0) in
+    record {
+      band = record {
+        whole = whole-strip _ (standing-accepted b (a .0));
+        width = eqb-true _ _ (q .0);
+        key = eqb-true _ _ (q .1);
+      };
+      fits = p .1;
+    }
+
+-- ---- all bands
+
+pub each-accepted : (first : Header) (rows : ℕ) (bs : List Standing) → checkEach first rows bs ≡ Accepted → Every (IsBand first) bs
+unfolding checkEach
+each-accepted first rows [] e = tt
+each-accepted first rows (b ∷ bs) e =
+    let a = and-passed _ _ e in
+    (band-accepted first rows b (a .0) .band, each-accepted first _ bs (a .1))
+
+-- one band or more have a joined size within the limits
+joined-fits : (first : Header) (rows : ℕ) (b : Standing) (bs : List Standing) → checkEach first rows (b ∷ bs) ≡ Accepted
+    → sizeFits (first .width) (rows + joinedRows (b ∷ bs)) ≡ true
+unfolding checkEach joinedRows
+joined-fits first rows b [] e =
+    let same : rows + (bandHeader b .height + 0) ≡ rows + bandHeader b .height = omega arith in
+    rw same (band-accepted first rows b (and-passed _ _ e .0) .fits)
+joined-fits first rows b (c ∷ bs) e =
+    let h = bandHeader b .height in
+    let same : rows + (h + joinedRows (c ∷ bs)) ≡ rows + h + joinedRows (c ∷ bs) = omega arith in
+    rw same (joined-fits first (rows + h) c bs (and-passed _ _ e .1))
+
+-- an accepted row
+pub record AreBands (r : List ℕ) : Type 0 where
+  pub some : 0 < length r
+  pub each : Every (IsBand (headerFields r)) (seriesOf r)
+  pub fits : sizeFits (headerFields r .width) (joinedRows (seriesOf r)) ≡ true
+
+pub bands-accepted : (r : List ℕ) → checkBands r ≡ Accepted → AreBands r
+unfolding checkBands
+bands-accepted r e =
+    let a = require-passed _ _ _ _ e in
+    let some = leb-true 1 (length r) (a .0) in
+    let next = series-next r 0 (omega arith) in
+    record {
+      some = omega arith;
+      each = each-accepted (headerFields r) 0 (seriesOf r) (a .1);
+      fits = rw next (rw zero-add at (joined-fits (headerFields r) 0 _ _ (rw next at (a .1))));
+    }
+
+-- ---- their pixels
+
+pub count-row : (first : Header) (bs : List Standing) → Every (IsBand first) bs → length (rowPixels bs) ≡ first .width * joinedRows bs
+unfolding flatMap joinedRows
+count-row first [] valid = omega arith
+count-row first (b ∷ bs) valid =
+    let n = count-pixels (b .strip) (valid .0 .whole) in
+    let rest = count-row first bs (valid .1) in
+    length-append (stripPixels (b .strip)) (rowPixels bs) ∙ rw (n, rest, valid .0 .width) (omega arith)
+
+pub few-pixels : (r : List ℕ) → AreBands r → length (rowPixels (seriesOf r)) ≤ 16777216
+few-pixels r ok = let most = size-limits _ _ (ok .fits) .count in rw (count-row (headerFields r) (seriesOf r) (ok .each)) most
+
+-- the joined tally is that of all pixels
+pub tallies-of : (bs : List Standing) → joinTallies bs ≡ tallyOf (luminancesOf (rowPixels bs))
+unfolding joinTallies flatMap luminancesOf
+tallies-of [] = refl
+tallies-of (b ∷ bs) =
+    ap (join (tallyOf (stripLuminances (b .strip)))) (tallies-of bs) ∙ sym (tally-join (stripPixels (b .strip)) (rowPixels bs))
+
+-- zeros for some pixels and for others
+zeros : (m n : ℕ) → let none = replicate {A = ℕ} in none (3 * m) 0 ++ none (3 * n) 0 ≡ none (3 * (m + n)) 0
+zeros m n = let e : 3 * (m + n) ≡ 3 * m + 3 * n = omega arith in rw e (replicate-append-replicate {A = ℕ} (3 * m) (3 * n) 0)
+
+-- bands of one key are mapped as their pixels together are
+pub levels-of : (average : Average) (first : Header) (bs : List Standing) → Every (IsBand first) bs
+    → flatMap (bandLevels average) bs ≡ pageLevels average first (rowPixels bs)
+unfolding flatMap
+levels-of Absent first [] valid = refl
+levels-of (Present A a) first [] valid = refl
+levels-of Absent first (b ∷ bs) valid =
+    rw (levels-of Absent first bs (valid .1), length-append (stripPixels (b .strip)) (rowPixels bs))
+    (zeros (length (stripPixels (b .strip))) (length (rowPixels bs)))
+levels-of (Present A a) first (b ∷ bs) valid =
+    rw (valid .0 .key, levels-of (Present A a) first bs (valid .1))
+    (sym (levels-append (toneOf first a) (stripPixels (b .strip)) (rowPixels bs)))
