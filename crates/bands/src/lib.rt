@@ -1,1 +1,2 @@
-// A page in bands: checked, its header read, tallied and mapped as one tall page.
+// A page in bands, strips one behind another in one lent row: its header read, tallied and mapped as one tall page.
+pub mod check;

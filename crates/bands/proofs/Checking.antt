@@ -1,0 +1,98 @@
+-- The checks of a row of bands as a walk from band to band. Assumes nothing.
+use Prim.Native.Nat.{ℕ, _+_, _≤_, _<_}
+use mathlib.Core.Path.{_≡_, refl, sym, ap, _∙_}
+use mathlib.Core.List.{List, []}
+use native.Mathlib.Nat.{zero-add}
+use native.Mathlib.Omega.{arith}
+use borrow.Author.Tests.{le-leb, lt-leb}
+use lib.ListN.{length}
+use Rattle.refusal.specs.declared.Refusal.{Refusal}
+use Rattle.refusal.specs.declared.Refusal.the-variants.{WrongLength}
+use Rattle.refusal.specs.declared.Verdict.{Verdict}
+use Rattle.refusal.specs.declared.Verdict.the-variants.{Accepted, Refused}
+use Rattle.refusal.specs.Verdicts.{require, andThen}
+use Rattle.word.specs.declared.header.Header.{Header}
+use Rattle.word.proofs.Limits.{size-limits}
+use Rattle.strip.specs.Checks.{headerFields}
+use Rattle.series.specs.Series.{seriesOf, stripAt, standingAt}
+use Rattle.series.specs.loops.Walks.{seriesFrom}
+use Rattle.series.proofs.Laws.{series-next, series-over, strip-at-within}
+use Rattle.bands.specs.Checks.{checkBand, checkEach, checkBands, joinedRows}
+use Rattle.bands.proofs.Accepted.{band-accepted, bands-accepted}
+
+-- ---- an empty row, and any other
+
+module _ (r : List ℕ) where
+  pub checked-empty : length r < 1 → Refused WrongLength 0 ≡ checkBands r
+  unfolding checkBands require
+  checked-empty h = rw (lt-leb _ _ h)
+
+  pub checked-each : {v : Verdict} → 1 ≤ length r → v ≡ checkEach (headerFields r) 0 (seriesOf r) → v ≡ checkBands r
+  unfolding checkBands require
+  checked-each h e = rw (le-leb _ _ h) e
+
+-- ---- the walk: the verdict on the bands that are left is that on all
+
+pub record Checking (r : List ℕ) (first : Header) (rows i : ℕ) : Type 0 where
+  pub within : i ≤ length r
+  pub few : rows ≤ 8192
+  pub same : checkEach first rows (seriesFrom r i) ≡ checkEach first 0 (seriesOf r)
+
+module _ (r : List ℕ) (first : Header) where
+  pub checking-all : Checking r first 0 0
+  checking-all = record { within = omega arith; few = omega arith; same = refl }
+
+  module _ {rows i : ℕ} (inv : Checking r first rows i) where
+    opened : i < length r
+        → checkEach first rows (seriesFrom r i)
+        ≡ andThen (checkBand first rows (standingAt r i))
+        (checkEach first (rows + headerFields (stripAt r i) .height) (seriesFrom r (i + length (stripAt r i))))
+    unfolding checkEach
+    opened h = rw (series-next r i h)
+
+    module _ {v : Verdict} (h : i < length r) (e : v ≡ checkBand first rows (standingAt r i)) where
+      pub checking-next : v ≡ Accepted → {band : List ℕ} → band ≡ stripAt r i
+          → Checking r first (rows + headerFields band .height) (i + length band)
+      unfolding andThen
+      checking-next f b =
+          let accepted = sym e ∙ f in
+          let limits = size-limits _ _ (band-accepted first rows _ accepted .fits) in
+          rw b
+          (record {
+            within = strip-at-within r i h .1;
+            few = limits .height;
+            same = sym (rw accepted at (opened h)) ∙ inv .same;
+          })
+
+      pub checking-refused : {q : Refusal} {j : ℕ} → v ≡ Refused q j → v ≡ checkEach first 0 (seriesOf r)
+      unfolding andThen
+      checking-refused f = f ∙ sym (rw (sym e ∙ f) at (opened h)) ∙ inv .same
+
+    pub checking-done : length r ≤ i → Accepted ≡ checkEach first 0 (seriesOf r)
+    unfolding checkEach
+    checking-done h = sym (ap (checkEach first rows) (series-over r i h)) ∙ inv .same
+
+-- ---- the rows of all bands: those that were passed, and those that are left
+
+pub record Counting (r : List ℕ) (rows i : ℕ) : Type 0 where
+  pub within : i ≤ length r
+  pub same : rows + joinedRows (seriesFrom r i) ≡ joinedRows (seriesOf r)
+
+module _ (r : List ℕ) where
+  pub counting-all : Counting r 0 0
+  counting-all = record { within = omega arith; same = zero-add (joinedRows (seriesOf r)) }
+
+  module _ {rows i : ℕ} (inv : Counting r rows i) where
+    pub counting-next : i < length r → {band : List ℕ} → band ≡ stripAt r i
+        → Counting r (rows + headerFields band .height) (i + length band)
+    unfolding joinedRows
+    counting-next h b =
+        let same = rw (series-next r i h) at (inv .same) in
+        rw b (record { within = strip-at-within r i h .1; same = omega arith })
+
+    pub counting-done : length r ≤ i → rows ≡ joinedRows (seriesOf r)
+    unfolding joinedRows
+    counting-done h = let same = rw (series-over r i h) at (inv .same) in omega arith
+
+  pub few-rows : checkBands r ≡ Accepted → joinedRows (seriesOf r) ≤ 8192
+  few-rows e = size-limits _ _ (bands-accepted r e .fits) .height

@@ -1,0 +1,121 @@
+// The checks of a page in bands, in their order, and the header of the whole.
+ghost use mathlib.Core.Path.{_≡_};
+ghost use Prim.Native.Nat.{_≤_, _<_};
+ghost use lib.ListN.{length};
+ghost use Rattle.refusal.specs.declared.Refusal.{Refusal};
+ghost use Rattle.refusal.specs.declared.Verdict.{Verdict};
+ghost use Rattle.refusal.specs.Verdicts.{require, reportOf};
+ghost use Rattle.strip.specs.Reading.{headerTold};
+ghost use Rattle.series.specs.Series.{seriesOf, standingAt};
+ghost use Rattle.bands.specs.Checks.{joins, checkBand, checkBands, joinedRows, readBands, checkMapBands};
+use refusal::Refusal;
+use refusal::Verdict;
+use series::check_at;
+use series::strip_at;
+use strip::read::HeaderOrRefusal;
+use strip::read::header_fields;
+use word::header::Header;
+use word::header::size_fits;
+
+// Whether a band is like the first one and the joined size within the limits, below bands that have so many rows.
+fn joins_bands(first: Header, rows: u64, band: Header) -> bool
+    requires { ⌜ (rows ≤ 8192) × (band .height < 16384) ⌝ }
+    ensures { λ r. ⌜ r ≡ joins first rows band ⌝ }
+{
+    if band.width != first.width {
+        return false;
+    }
+    if band.key != first.key {
+        return false;
+    }
+    size_fits(first.width, rows + band.height)
+}
+
+// One band, below bands that have so many rows: its own checks, then those of joining.
+fn check_band(row: &[u32], start: usize, first: Header, rows: u64) -> Verdict
+    requires { ⌜ (start ≤ length (now row)) × (rows ≤ 8192) ⌝ }
+    ensures { λ r. ⌜ r ≡ checkBand first rows (standingAt (now (row .entry)) start) ⌝ }
+{
+    let verdict = check_at(row, start);
+    let Verdict::Accepted = verdict else {
+        return verdict;
+    };
+    if joins_bands(first, rows, header_fields(strip_at(row, start))) {
+        Verdict::Accepted
+    } else {
+        Verdict::Refused(Refusal::UnlikeBands, 0)
+    }
+}
+
+// A row of bands.
+pub fn check(row: &[u32]) -> Verdict
+    ensures verdict { λ r. ⌜ r ≡ checkBands (now (row .entry)) ⌝ }
+    ensures outcome { λ r. ⌜ reportOf r ≡ reportOf (checkBands (now (row .entry))) ⌝ }
+{
+    if row.len() < 1 {
+        return Verdict::Refused(Refusal::WrongLength, 0);
+    }
+    let first = header_fields(row);
+    let mut rows: u64 = 0;
+    let mut i: usize = 0;
+    while i < row.len() {
+        let verdict = check_band(row, i, first, rows);
+        let Verdict::Accepted = verdict else {
+            return verdict;
+        };
+        let band = strip_at(row, i);
+        rows += header_fields(band).height;
+        i += band.len();
+    }
+    Verdict::Accepted
+}
+
+// The rows of all bands together.
+fn joined_rows(row: &[u32]) -> u64
+    requires { ⌜ checkBands (now row) ≡ Verdict.Accepted ⌝ }
+    ensures { λ r. ⌜ r ≡ joinedRows (seriesOf (now (row .entry))) ⌝ }
+{
+    let mut rows: u64 = 0;
+    let mut i: usize = 0;
+    while i < row.len() {
+        let band = strip_at(row, i);
+        rows += header_fields(band).height;
+        i += band.len();
+    }
+    rows
+}
+
+// The width, joined height and key of a row of bands, or its refusal.
+pub fn header(row: &[u32]) -> HeaderOrRefusal
+    ensures answer { λ r. ⌜ r ≡ readBands (now (row .entry)) ⌝ }
+    ensures told { λ r. ⌜ headerTold r ≡ headerTold (readBands (now (row .entry))) ⌝ }
+{
+    let verdict = check(row);
+    match verdict {
+        Verdict::Accepted => {
+            let first = header_fields(row);
+            HeaderOrRefusal::Holds(Header {
+                width: first.width,
+                height: joined_rows(row),
+                key: first.key,
+            })
+        },
+        Verdict::Refused(refusal, i) => HeaderOrRefusal::Refuses(refusal, i),
+    }
+}
+
+// A row of bands whose levels go into an output of so many bytes.
+pub fn check_map(row: &[u32], room: usize) -> Verdict
+    ensures verdict { λ r. ⌜ r ≡ checkMapBands (now (row .entry)) room ⌝ }
+    ensures outcome { λ r. ⌜ reportOf r ≡ reportOf (checkMapBands (now (row .entry)) room) ⌝ }
+{
+    let verdict = check(row);
+    let Verdict::Accepted = verdict else {
+        return verdict;
+    };
+    if (room as u64) < 3 * (header_fields(row).width * joined_rows(row)) {
+        Verdict::Refused(Refusal::SmallOutput, 0)
+    } else {
+        Verdict::Accepted
+    }
+}
