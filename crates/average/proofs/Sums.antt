@@ -14,14 +14,14 @@ use mir.Val.{SFits}
 use Rattle.number.proofs.Laws.{Every, sub-add, sub-least, sub-most, Lowered, lowered}
 use Rattle.number.specs.declared.ratio.Stored.{Stored}
 use Rattle.average.specs.Averages.{stepsOf}
-use Rattle.average.specs.loops.Sums.{total, raisedSteps, IsSum}
+use Rattle.average.specs.loops.Sums.{total, raisedSteps, IsSum, IsTally}
 use Rattle.luminance.specs.Pixels.{IsLuminance}
 use Rattle.average.specs.Tables.{logTest}
-use Rattle.average.specs.Tallies.{sumOf}
+use Rattle.average.specs.Tallies.{sumOf, tallyOf}
 use Rattle.average.specs.Claims.{TalliesJoin}
 use Rattle.average.proofs.Rules.{log-le, log-from}
 use Rattle.average.proofs.Signed.{sub-fits}
-use Rattle.average.proofs.Widening.{extremes-append}
+use Rattle.average.proofs.Widening.{extremes-append, extremes-mantissas}
 
 -- ---- one luminance
 
@@ -61,6 +61,14 @@ sum-fits {n} s =
     let few : n ≤ 2 ^ 40 = s .few in
     rw (d .is) (sub-fits (d .from) (15630 * n) (omega (arith, d .most)) (omega arith))
 
+-- and two of them added up fit
+pub sums-fit : {n k : ℕ} {y z : ℤ} → IsSum n y → IsSum k z → SFits w64 (y +ℤ z)
+sums-fit {n} {k} s r =
+    let d = sum-lowered s in
+    let e = sum-lowered r in
+    rw (d .is, e .is, sub-add (d .from) (15630 * n) (e .from) (15630 * k))
+    (sub-fits (d .from + e .from) (15630 * n + 15630 * k) (omega (arith, s .few, r .few, d .most, e .most)) (omega (arith, s .few, r .few)))
+
 sum-more : {n : ℕ} {z : ℤ} (y : Stored) → IsSum n z → n < 2 ^ 40 → IsLuminance y → IsSum (n + 1) (z +ℤ stepsOf y)
 sum-more {n} y s few l =
     let d = sum-lowered s in
@@ -84,6 +92,9 @@ tally-is-sum [] h few = record { few = few; least = leZ-yes tt; most = leZ-yes t
 tally-is-sum (y ∷ ys) h few =
     rw (+ℤ-comm (stepsOf y) (sumOf ys), ← add-one (length ys))
     (sum-more y (tally-is-sum ys (h .1) (omega arith)) (omega arith) (h .0))
+
+pub is-tally : (ys : List Stored) → Every IsLuminance ys → length ys ≤ 2 ^ 40 → IsTally (tallyOf ys)
+is-tally ys h few = record { sum = tally-is-sum ys h few; extremes = extremes-mantissas ys h }
 
 -- ---- lists one after the other
 
