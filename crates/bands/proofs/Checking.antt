@@ -1,5 +1,5 @@
 -- The checks of a row of bands as a walk from band to band. Assumes nothing.
-use Prim.Native.Nat.{ℕ, _+_, _≤_, _<_}
+use Prim.Native.Nat.{ℕ, _+_, _*_, _≤_, _<_}
 use mathlib.Core.Path.{_≡_, refl, sym, ap, _∙_}
 use mathlib.Core.List.{List, []}
 use native.Mathlib.Nat.{zero-add}
@@ -7,17 +7,18 @@ use native.Mathlib.Omega.{arith}
 use borrow.Author.Tests.{le-leb, lt-leb}
 use lib.ListN.{length}
 use Rattle.refusal.specs.declared.Refusal.{Refusal}
-use Rattle.refusal.specs.declared.Refusal.the-variants.{WrongLength}
+use Rattle.refusal.specs.declared.Refusal.the-variants.{WrongLength, SmallOutput}
 use Rattle.refusal.specs.declared.Verdict.{Verdict}
 use Rattle.refusal.specs.declared.Verdict.the-variants.{Accepted, Refused}
 use Rattle.refusal.specs.Verdicts.{require, andThen}
 use Rattle.word.specs.declared.header.Header.{Header}
+use Rattle.word.specs.Words.{pixels}
 use Rattle.word.proofs.Limits.{size-limits}
 use Rattle.strip.specs.Checks.{headerFields}
 use Rattle.series.specs.Series.{seriesOf, stripAt, standingAt}
 use Rattle.series.specs.loops.Walks.{seriesFrom}
 use Rattle.series.proofs.Laws.{series-next, series-over, strip-at-within}
-use Rattle.bands.specs.Checks.{checkBand, checkEach, checkBands, joinedRows}
+use Rattle.bands.specs.Checks.{checkBand, checkEach, checkBands, joinedRows, tallHeader, checkMapBands}
 use Rattle.bands.proofs.Accepted.{band-accepted, bands-accepted}
 
 -- ---- an empty row, and any other
@@ -30,6 +31,10 @@ module _ (r : List ℕ) where
   pub checked-each : {v : Verdict} → 1 ≤ length r → v ≡ checkEach (headerFields r) 0 (seriesOf r) → v ≡ checkBands r
   unfolding checkBands require
   checked-each h e = rw (le-leb _ _ h) e
+
+  -- each band takes a walk on, and not beyond the row
+  pub ahead : {i : ℕ} → i < length r → {band : List ℕ} → band ≡ stripAt r i → (0 < length band) × (i + length band ≤ length r)
+  ahead {i} h b = rw b (strip-at-within r i h)
 
 -- ---- the walk: the verdict on the bands that are left is that on all
 
@@ -96,3 +101,23 @@ module _ (r : List ℕ) where
 
   pub few-rows : checkBands r ≡ Accepted → joinedRows (seriesOf r) ≤ 8192
   few-rows e = size-limits _ _ (bands-accepted r e .fits) .height
+
+  -- the pixels of all bands
+  pub few-joined : checkBands r ≡ Accepted → pixels (tallHeader r) ≤ 16777216
+  few-joined e = size-limits _ _ (bands-accepted r e .fits) .count
+
+-- ---- the output, last
+
+module _ (r : List ℕ) (room : ℕ) where
+  pub map-refused : {v : Verdict} {q : Refusal} {j : ℕ} → v ≡ checkBands r → v ≡ Refused q j → v ≡ checkMapBands r room
+  unfolding checkMapBands andThen
+  map-refused e f = rw (sym e ∙ f) f
+
+  module _ (e : checkBands r ≡ Accepted) where
+    pub map-small : room < 3 * pixels (tallHeader r) → Refused SmallOutput 0 ≡ checkMapBands r room
+    unfolding checkMapBands andThen require
+    map-small h = rw (e, lt-leb _ _ h)
+
+    pub map-fits : 3 * pixels (tallHeader r) ≤ room → Accepted ≡ checkMapBands r room
+    unfolding checkMapBands andThen require
+    map-fits h = rw (e, le-leb _ _ h)

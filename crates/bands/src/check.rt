@@ -1,13 +1,14 @@
 // The checks of a page in bands, in their order, and the header of the whole.
 ghost use mathlib.Core.Path.{_≡_};
-ghost use Prim.Native.Nat.{_≤_, _<_};
+ghost use Prim.Native.Nat.{_*_, _≤_, _<_};
 ghost use lib.ListN.{length};
 ghost use Rattle.refusal.specs.declared.Refusal.{Refusal};
 ghost use Rattle.refusal.specs.declared.Verdict.{Verdict};
 ghost use Rattle.refusal.specs.Verdicts.{require, reportOf};
+ghost use Rattle.word.specs.Words.{pixels};
 ghost use Rattle.strip.specs.Reading.{headerTold};
 ghost use Rattle.series.specs.Series.{seriesOf, standingAt};
-ghost use Rattle.bands.specs.Checks.{joins, checkBand, checkBands, joinedRows, readBands, checkMapBands};
+ghost use Rattle.bands.specs.Checks.{joins, checkBand, checkBands, joinedRows, tallHeader, readBands, checkMapBands};
 use refusal::Refusal;
 use refusal::Verdict;
 use series::check_at;
@@ -85,6 +86,15 @@ fn joined_rows(row: &[u32]) -> u64
     rows
 }
 
+// The level bytes of all bands, three a pixel.
+pub(crate) fn level_bytes(row: &[u32]) -> usize
+    requires { ⌜ checkBands (now row) ≡ Verdict.Accepted ⌝ }
+    ensures { λ r. ⌜ r ≡ 3 * pixels (tallHeader (now (row .entry))) ⌝ }
+{
+    let width = header_fields(row).width;
+    (3 * (width * joined_rows(row))) as usize
+}
+
 // The width, joined height and key of a row of bands, or its refusal.
 pub fn header(row: &[u32]) -> HeaderOrRefusal
     ensures answer { λ r. ⌜ r ≡ readBands (now (row .entry)) ⌝ }
@@ -113,7 +123,7 @@ pub fn check_map(row: &[u32], room: usize) -> Verdict
     let Verdict::Accepted = verdict else {
         return verdict;
     };
-    if (room as u64) < 3 * (header_fields(row).width * joined_rows(row)) {
+    if room < level_bytes(row) {
         Verdict::Refused(Refusal::SmallOutput, 0)
     } else {
         Verdict::Accepted

@@ -4,5 +4,5 @@
 pub use Rattle.page.proofs.Checks.{tally-whole, map-fits, room-enough}
 -- the number of its level bytes
 pub use Rattle.page.proofs.Strips.{length-levels}
--- demand 3
-pub use Rattle.page.proofs.Bounds.{demand-three}
+-- what the two calls promise; demand 3
+pub use Rattle.page.proofs.Bounds.{tally-bound, map-bound, demand-three}

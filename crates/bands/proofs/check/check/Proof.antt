@@ -1,89 +1,68 @@
+-- `bands::check::check` meets its contract: at each turn the verdict on the bands that are left is that on all. Assumes nothing.
+use borrow.Author.Needs.{needs}
+use Prim.Native.Nat.{_-_, _≤_}
+use mathlib.Core.Path.{_≡_, _∙_}
+use native.Mathlib.Omega.{arith}
+use lib.ListN.{length}
+use Rattle.refusal.specs.Verdicts.{reportOf}
+use Rattle.refusal.proofs.Laws.{also}
+use Rattle.strip.specs.Checks.{headerFields}
+use Rattle.bands.proofs.Checking.{ahead, checked-empty, checked-each, Checking, checking-all, checking-next, checking-refused, checking-done}
 use Rattle.bands.proofs.check.check.Statement.{statement}
 use Rattle.bands.proofs.check.check.Tie as tie
-use Rattle.bands.proofs.check.check.Reads as reads
-use Rattle.bands.proofs.check.check.Lts as lts
-use Rattle.bands.proofs.check.check_band.Reads as check-band-reads
-use Rattle.series.proofs.strip_at.Reads as strip-at-reads
-use Rattle.strip.proofs.read.header_fields.Reads as header-fields-reads
 
 abbrev Inv-loop : tie.InvT-loop
-Inv-loop row first rows₀ i₀ rows i = ?
+Inv-loop row first rows₀ i₀ rows i = (first ≡ headerFields row) × (1 ≤ length row) × Checking row first rows i
 
 abbrev μ-loop : tie.MeasureT-loop
-μ-loop row first rows₀ i₀ rows i = ?
+μ-loop row first rows₀ i₀ rows i = length row - i
 
--- src/check.rt:50:9
-returns : tie.Need-returns Inv-loop μ-loop
-returns c = ?
-
--- src/check.rt:52:9
-header-fields-requires : tie.Need-header-fields-requires Inv-loop μ-loop
-header-fields-requires c κs = ?
-
--- src/check.rt:55:5
 loop-holds : tie.Need-loop-holds Inv-loop μ-loop
-loop-holds c = ?
+loop-holds c = (c .header-fields .ensures, c .before .if1 .left, checking-all _ _)
 
--- src/check.rt:56:13
 check-band-requires : tie.Need-check-band-requires Inv-loop μ-loop
-check-band-requires c κs = ?
+check-band-requires c κs = let inv = c .before .loop .inv .2 in (inv .within, inv .few)
 
-enum-told : tie.Need-enum-told Inv-loop μ-loop
-enum-told c = ?
-
--- src/check.rt:58:13
-enum-told-2 : tie.Need-enum-told-2 Inv-loop μ-loop
-enum-told-2 c = ?
-
--- src/check.rt:58:13
 returns-2 : tie.Need-returns-2 Inv-loop μ-loop
-returns-2 c = ?
+returns-2 c =
+    let b = c .before .before in
+    let t = b .before in
+    let inv = t .before .loop .inv in
+    also reportOf
+    (checked-each _ (inv .1)
+    (checking-refused _ _ (inv .2) (t .loop-test .taken) (b .check-band .ensures) (c .enum-told2 .given .1) ∙ rw (inv .0)))
 
--- src/check.rt:60:13
-strip-at-requires : tie.Need-strip-at-requires Inv-loop μ-loop
-strip-at-requires c κs = ?
-
--- src/check.rt:61:17
-header-fields-requires-2 : tie.Need-header-fields-requires-2 Inv-loop μ-loop
-header-fields-requires-2 c κs = ?
-
--- src/check.rt:61:9
-add-rows : tie.Need-add-rows Inv-loop μ-loop
-add-rows c = ?
-
--- src/check.rt:62:9
-add-i : tie.Need-add-i Inv-loop μ-loop
-add-i c = ?
-
--- src/check.rt:55:5
-loop-less : tie.Need-loop-less Inv-loop μ-loop
-loop-less c = ?
-
--- src/check.rt:55:5
 loop-again : tie.Need-loop-again Inv-loop μ-loop
-loop-again c = ?
+loop-again c =
+    let h = c .before in
+    let s = h .before in
+    let b = s .before .before .before in
+    let t = b .before in
+    let inv = t .before .loop .inv in (
+      inv .0,
+      inv .1,
+      rw (h .header-fields2 .ensures)
+          (checking-next _ _ (inv .2) (t .loop-test .taken) (b .check-band .ensures) (s .before .enum-told .given .1) (s .strip-at .ensures)),
+    )
 
--- src/check.rt:45:1
+loop-less : tie.Need-loop-less Inv-loop μ-loop
+loop-less c =
+    let s = c .before .before in
+    let t = s .before .before .before .before in
+    let more = ahead _ (t .loop-test .taken) (s .strip-at .ensures) in
+    omega (arith, more .0, more .1)
+
 returns-3 : tie.Need-returns-3 Inv-loop μ-loop
-returns-3 c = ?
+returns-3 c =
+    let inv = c .before .loop .inv in
+    also reportOf (checked-each _ (inv .1) (checking-done _ _ (inv .2) (c .loop-test .left) ∙ rw (inv .0)))
 
 pub check-spec : {M : Type 1} → statement M
 check-spec =
     tie.close
     (tie.spec
-    Inv-loop
-    μ-loop
-    returns
-    header-fields-requires
-    loop-holds
-    check-band-requires
-    enum-told
-    enum-told-2
-    returns-2
-    strip-at-requires
-    header-fields-requires-2
-    add-rows
-    add-i
-    loop-less
-    loop-again
-    returns-3)
+    Inv-loop μ-loop (λ c. also reportOf (checked-empty _ (c .if1 .taken))) (λ c κs. search needs) loop-holds check-band-requires
+    (λ c. search needs) (λ c. search needs) returns-2 (λ c κs. search needs) (λ c κs. search needs)
+    (λ c. omega (arith, loop-again c .2 .few))
+    (λ c. omega (arith, loop-again c .2 .within, c .before .before .before .before .before .before .before .before .before .before .before .good .0))
+    loop-less loop-again returns-3)

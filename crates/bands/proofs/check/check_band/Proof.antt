@@ -1,58 +1,40 @@
+-- `bands::check::check_band` meets its contract. Assumes nothing.
 use borrow.Author.Needs.{needs}
+use mathlib.Core.Path.{sym, _∙_}
+use native.Mathlib.Omega.{arith}
+use Rattle.refusal.specs.Verdicts.{require, andThen}
+use Rattle.bands.specs.Checks.{checkBand}
 use Rattle.bands.proofs.check.check_band.Statement.{statement}
 use Rattle.bands.proofs.check.check_band.Tie as tie
-use Rattle.bands.proofs.check.check_band.Reads as reads
-use Rattle.bands.proofs.check.check_band.Lts as lts
-use Rattle.bands.proofs.check.joins_bands.Reads as joins-bands-reads
-use Rattle.series.proofs.check_at.Reads as check-at-reads
-use Rattle.series.proofs.strip_at.Reads as strip-at-reads
-use Rattle.strip.proofs.read.header_fields.Reads as header-fields-reads
 
--- src/check.rt:33:9
-check-at-requires : tie.Need-check-at-requires
-check-at-requires c κs = search needs
-
-enum-told : tie.Need-enum-told
-enum-told c = search needs
-
--- src/check.rt:35:9
-enum-told-2 : tie.Need-enum-told-2
-enum-told-2 c = search needs
-
--- src/check.rt:35:9
 returns : tie.Need-returns
-returns c = ?
+unfolding checkBand andThen
+returns c = let e = c .before .before .check-at .ensures in rw (sym e ∙ c .enum-told2 .given .1) (c .enum-told2 .given .1)
 
--- src/check.rt:37:47
-strip-at-requires : tie.Need-strip-at-requires
-strip-at-requires c κs = search needs
-
--- src/check.rt:37:33
-header-fields-requires : tie.Need-header-fields-requires
-header-fields-requires c κs = search needs
-
--- src/check.rt:37:8
 joins-bands-requires : tie.Need-joins-bands-requires
-joins-bands-requires c κs = ?
+joins-bands-requires c κs = rw (c .header-fields .ensures) (c .before .before .before .before .before .before .pre .1, omega arith)
 
--- src/check.rt:29:1
 returns-2 : tie.Need-returns-2
-returns-2 c = ?
+unfolding checkBand andThen require
+returns-2 c =
+    let j = c .before in
+    let h = j .before in
+    let v = h .before .before in
+    let alike = rw (h .header-fields .ensures, h .before .strip-at .ensures) at (sym (j .joins-bands .ensures) ∙ c .if1 .taken) in
+    rw (sym (v .before .before .check-at .ensures) ∙ v .enum-told .given .1, alike)
 
--- src/check.rt:29:1
 returns-3 : tie.Need-returns-3
-returns-3 c = ?
+unfolding checkBand andThen require
+returns-3 c =
+    let j = c .before in
+    let h = j .before in
+    let v = h .before .before in
+    let alike = rw (h .header-fields .ensures, h .before .strip-at .ensures) at (sym (j .joins-bands .ensures) ∙ c .if1 .left) in
+    rw (sym (v .before .before .check-at .ensures) ∙ v .enum-told .given .1, alike)
 
 pub check-band-spec : {M : Type 1} → statement M
 check-band-spec =
     tie.close
     (tie.spec
-    check-at-requires
-    enum-told
-    enum-told-2
-    returns
-    strip-at-requires
-    header-fields-requires
-    joins-bands-requires
-    returns-2
-    returns-3)
+    (λ c κs. search needs) (λ c. search needs) (λ c. search needs) returns (λ c κs. search needs) (λ c κs. search needs)
+    joins-bands-requires returns-2 returns-3)

@@ -1,59 +1,40 @@
+-- `bands::check::joined_rows` meets its contract: at each turn the rows that are left make up all. Assumes nothing.
+use borrow.Author.Needs.{needs}
+use Prim.Native.Nat.{_-_}
+use native.Mathlib.Omega.{arith}
+use lib.ListN.{length}
+use denote.Ref.{now}
+use Rattle.bands.proofs.Checking.{ahead, Counting, counting-all, counting-next, counting-done, few-rows}
 use Rattle.bands.proofs.check.joined_rows.Statement.{statement}
 use Rattle.bands.proofs.check.joined_rows.Tie as tie
-use Rattle.bands.proofs.check.joined_rows.Reads as reads
-use Rattle.bands.proofs.check.joined_rows.Lts as lts
-use Rattle.series.proofs.strip_at.Reads as strip-at-reads
-use Rattle.strip.proofs.read.header_fields.Reads as header-fields-reads
 
 abbrev Inv-loop : tie.InvT-loop
-Inv-loop row rows₀ i₀ rows i = ?
+Inv-loop row rows₀ i₀ rows i = Counting row rows i
 
 abbrev μ-loop : tie.MeasureT-loop
-μ-loop row rows₀ i₀ rows i = ?
+μ-loop row rows₀ i₀ rows i = length row - i
 
--- src/check.rt:74:5
-loop-holds : tie.Need-loop-holds Inv-loop μ-loop
-loop-holds c = ?
-
--- src/check.rt:75:13
-strip-at-requires : tie.Need-strip-at-requires Inv-loop μ-loop
-strip-at-requires c κs = ?
-
--- src/check.rt:76:17
-header-fields-requires : tie.Need-header-fields-requires Inv-loop μ-loop
-header-fields-requires c κs = ?
-
--- src/check.rt:76:9
-add-rows : tie.Need-add-rows Inv-loop μ-loop
-add-rows c = ?
-
--- src/check.rt:77:9
-add-i : tie.Need-add-i Inv-loop μ-loop
-add-i c = ?
-
--- src/check.rt:74:5
-loop-less : tie.Need-loop-less Inv-loop μ-loop
-loop-less c = ?
-
--- src/check.rt:74:5
 loop-again : tie.Need-loop-again Inv-loop μ-loop
-loop-again c = ?
+loop-again c =
+    let h = c .before in
+    let s = h .before in
+    let t = s .before in
+    rw (h .header-fields .ensures) (counting-next _ (t .before .loop .inv) (t .loop-test .taken) (s .strip-at .ensures))
 
--- src/check.rt:68:1
-returns : tie.Need-returns Inv-loop μ-loop
-returns c = ?
+add-rows : tie.Need-add-rows Inv-loop μ-loop
+add-rows c = omega (arith, few-rows _ (c .before .before .before .before .before .before .pre), loop-again c .same)
+
+loop-less : tie.Need-loop-less Inv-loop μ-loop
+loop-less c =
+    let s = c .before .before in
+    let t = s .before in
+    let more = ahead _ (t .loop-test .taken) (s .strip-at .ensures) in
+    omega (arith, more .0, more .1)
 
 pub joined-rows-spec : {M : Type 1} → statement M
 joined-rows-spec =
     tie.close
     (tie.spec
-    Inv-loop
-    μ-loop
-    loop-holds
-    strip-at-requires
-    header-fields-requires
-    add-rows
-    add-i
-    loop-less
-    loop-again
-    returns)
+    Inv-loop μ-loop (λ c. counting-all _) (λ c κs. search needs) (λ c κs. search needs) add-rows
+    (λ c. omega (arith, loop-again c .within, c .before .before .before .before .before .before .good .0)) loop-less loop-again
+    (λ c. counting-done _ (c .before .loop .inv) (c .loop-test .left)))

@@ -1,25 +1,24 @@
+-- `bands::check::joins_bands` meets its contract. Assumes nothing.
 use borrow.Author.Needs.{needs}
+use native.Mathlib.Omega.{arith}
+use borrow.Author.Tests.{eq-eqb, ne-eqb}
+use Rattle.bands.specs.Checks.{joins}
 use Rattle.bands.proofs.check.joins_bands.Statement.{statement}
 use Rattle.bands.proofs.check.joins_bands.Tie as tie
-use Rattle.bands.proofs.check.joins_bands.Reads as reads
-use Rattle.bands.proofs.check.joins_bands.Lts as lts
-use Rattle.word.proofs.header.size_fits.Reads as size-fits-reads
 
--- src/check.rt:25:82
-add-size-fits : tie.Need-add-size-fits
-add-size-fits c = search needs
-
--- src/check.rt:25:59
-size-fits-requires : tie.Need-size-fits-requires
-size-fits-requires c κs = search needs
-
--- src/check.rt:21:1
 returns : tie.Need-returns
-returns c = ?
+unfolding joins
+returns c = simp (ne-eqb _ _ (c .if1 .taken))
 
--- src/check.rt:21:1
 returns-2 : tie.Need-returns-2
-returns-2 c = ?
+unfolding joins
+returns-2 c = simp (eq-eqb _ _ (c .before .before .before .if1 .left), ne-eqb _ _ (c .if2 .taken))
+
+returns-3 : tie.Need-returns-3
+unfolding joins
+returns-3 c =
+    let b = c .before .before in
+    simp (eq-eqb _ _ (b .before .before .before .if1 .left), eq-eqb _ _ (b .if2 .left), c .size-fits .ensures)
 
 pub joins-bands-spec : {M : Type 1} → statement M
-joins-bands-spec = tie.close (tie.spec add-size-fits size-fits-requires returns returns-2)
+joins-bands-spec = tie.close (tie.spec returns returns-2 (λ c. search needs) (λ c κs. search needs) returns-3)
