@@ -102,7 +102,7 @@ module _ (s : List ℕ) where
   unfolding tallyStrip
   refused e = rw e
 
-tally-bound : (s : List ℕ) → TallyPromise s (tallyStrip s)
+pub tally-bound : (s : List ℕ) → TallyPromise s (tallyStrip s)
 unfolding tallyStrip
 tally-bound s = by (checkTally s) refl
   where
@@ -119,7 +119,7 @@ pub bounded : (s : List ℕ) {r : TallyOrRefusal} → r ≡ tallyStrip s
     → (r ≡ tallyStrip s) × ((tallyTold r ≡ tallyTold (tallyStrip s)) × TallyPromise s r)
 bounded s e = also-with tallyTold e (subst (TallyPromise s) (sym e) (tally-bound s))
 
-map-bound : (s output : List ℕ) → checkTally s ≡ Accepted → MapPromise s Accepted (onto (stripLevels s) output)
+pub map-bound : (s output : List ℕ) → checkTally s ≡ Accepted → MapPromise s Accepted (onto (stripLevels s) output)
 map-bound s output e = where-lit s (tally-whole s e) _ (λ A q. level-half s (tally-whole s e) output q)
 
 -- the promise of mapping
