@@ -1,3 +1,4 @@
 pub mod Accepted
 pub mod Tall
 pub mod Cuts
+pub mod Bounds
