@@ -1,2 +1,5 @@
 pub mod Accepted
 pub mod Checking
+pub mod Tall
+pub mod Cuts
+pub mod Bounds

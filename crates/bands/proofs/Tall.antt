@@ -1,0 +1,119 @@
+-- An accepted row of bands is the one tall strip. Assumes nothing.
+use Prim.Native.Nat.{ℕ, _*_}
+use mathlib.Core.Path.{_≡_, refl, sym, ap, ap₂, _∙_}
+use mathlib.Core.Bool.{true}
+use mathlib.Core.List.{List, [], _∷_, _++_, flatMap}
+use native.Mathlib.Omega.{arith}
+use lib.ListN.{length, length-append}
+use Rattle.number.specs.declared.channel.Channel.{Channel}
+use Rattle.number.specs.declared.channel.Pixel.{Pixel}
+use Rattle.number.specs.Channels.{IsChannel}
+use Rattle.number.proofs.Laws.{Every}
+use Rattle.refusal.specs.declared.Verdict.the-variants.{Accepted}
+use Rattle.word.specs.declared.header.Header.{Header}
+use Rattle.word.specs.Words.{pixels, keyFits}
+use Rattle.word.specs.Pixels.{pixelsOf}
+use Rattle.word.proofs.Pixels.{pixels-append}
+use Rattle.strip.specs.Checks.{headerFields, checkStrip}
+use Rattle.strip.specs.Reading.{stripChannels, stripPixels, headerUnder}
+use Rattle.strip.proofs.RoundTrip.{IsPage, header-written, written-accepted, channels-written, page-read}
+use Rattle.average.specs.declared.average.Average.{Average}
+use Rattle.average.specs.declared.average.Average.the-variants.{Absent, Present}
+use Rattle.average.specs.Tallies.{tallyOf}
+use Rattle.body.specs.Luminances.{luminancesOf}
+use Rattle.page.specs.Tallying.{stripLuminances, averageOfTally, stripAverage, tallyUnder, tallyStrip}
+use Rattle.page.specs.Mapping.{pageLevels, stripLevels}
+use Rattle.page.proofs.Laws.{tally-checked}
+use Rattle.series.specs.Series.{Standing, seriesOf}
+use Rattle.series.proofs.Laws.{series-next}
+use Rattle.bands.specs.Checks.{withRows, joinedRows, tallHeader}
+use Rattle.bands.specs.Joining.{joinTallies, tallyBands, joinedAverage, rowLevels}
+use Rattle.bands.specs.Cutting.{rowChannels, tallStrip}
+use Rattle.bands.specs.Claims.{BandsAreTall}
+use Rattle.bands.specs.loops.Walks.{rowPixels}
+use Rattle.bands.proofs.Accepted.{IsBand, AreBands, bands-accepted, tallies-of, levels-of}
+
+-- ---- the channels of bands, one after another
+
+every-append : (cs ds : List Channel) → Every IsChannel cs → Every IsChannel ds → Every IsChannel (cs ++ ds)
+every-append [] ds p q = q
+every-append (c ∷ cs) ds p q = (p .0, every-append cs ds (p .1) q)
+
+module _ (first : Header) where
+  row-count : (bs : List Standing) → Every (IsBand first) bs → length (rowChannels bs) ≡ 3 * pixels (withRows first (joinedRows bs))
+  unfolding flatMap joinedRows
+  row-count [] valid = omega arith
+  row-count (b ∷ bs) valid =
+      let n = page-read (b .strip) (valid .0 .whole) .count in
+      let rest = row-count bs (valid .1) in
+      length-append (stripChannels (b .strip)) (rowChannels bs) ∙ rw (n, rest, valid .0 .width) (omega arith)
+
+  row-valid : (bs : List Standing) → Every (IsBand first) bs → Every IsChannel (rowChannels bs)
+  unfolding flatMap
+  row-valid [] valid = tt
+  row-valid (b ∷ bs) valid =
+      every-append (stripChannels (b .strip)) (rowChannels bs) (page-read (b .strip) (valid .0 .whole) .valid) (row-valid bs (valid .1))
+
+  -- each band has whole pixels
+  row-pixels : (bs : List Standing) → Every (IsBand first) bs → pixelsOf (rowChannels bs) ≡ rowPixels bs
+  unfolding flatMap
+  row-pixels [] valid = refl
+  row-pixels (b ∷ bs) valid =
+      let n = page-read (b .strip) (valid .0 .whole) .count in
+      pixels-append (stripChannels (b .strip)) (rowChannels bs) (omega arith)
+      ∙ ap (λ ps. stripPixels (b .strip) ++ ps) (row-pixels bs (valid .1))
+
+-- ---- the tall strip
+
+-- the first band's key is one
+row-key : (r : List ℕ) → AreBands r → keyFits (headerFields r .key) ≡ true
+row-key r ok =
+    let b = rw (series-next r 0 (ok .some)) at (ok .each) in
+    rw (b .0 .key) at (b .0 .whole .head .key-fits)
+
+-- a page's key alone counts for its levels
+same-key : (average : Average) (h k : Header) (ps : List Pixel) → h .key ≡ k .key → pageLevels average h ps ≡ pageLevels average k ps
+same-key Absent h k ps e = refl
+same-key (Present A a) h k ps e = rw e
+
+module _ (r : List ℕ) (ok : AreBands r) where
+  pub tall-page : IsPage (tallHeader r) (rowChannels (seriesOf r))
+  tall-page =
+      record {
+        size = ok .fits;
+        key = row-key r ok;
+        count = row-count (headerFields r) (seriesOf r) (ok .each);
+        valid = row-valid (headerFields r) (seriesOf r) (ok .each);
+      }
+
+  pub tall-accepted : checkStrip (tallStrip r) ≡ Accepted
+  unfolding checkStrip
+  tall-accepted = written-accepted _ _ tall-page Accepted refl
+
+  pub tall-header : headerFields (tallStrip r) ≡ tallHeader r
+  tall-header = header-written _ _ tall-page
+
+  pub tall-pixels : stripPixels (tallStrip r) ≡ rowPixels (seriesOf r)
+  tall-pixels = ap pixelsOf (channels-written _ _ tall-page) ∙ row-pixels (headerFields r) (seriesOf r) (ok .each)
+
+  pub tall-tally : joinTallies (seriesOf r) ≡ tallyOf (stripLuminances (tallStrip r))
+  tall-tally = tallies-of (seriesOf r) ∙ ap (λ ps. tallyOf (luminancesOf ps)) (sym tall-pixels)
+
+  pub tall-levels : rowLevels r ≡ stripLevels (tallStrip r)
+  tall-levels =
+      let s = tallStrip r in
+      levels-of (joinedAverage (seriesOf r)) (headerFields r) (seriesOf r) (ok .each)
+      ∙ ap₂ (λ t ps. pageLevels (averageOfTally t) (headerFields r) ps) tall-tally (sym tall-pixels)
+      ∙ same-key (stripAverage s) (headerFields r) (headerFields s) (stripPixels s) (ap (λ h. h .key) (sym tall-header))
+
+pub bands-are-tall : BandsAreTall
+unfolding tallyBands tallyStrip
+bands-are-tall r e =
+    let ok = bands-accepted r e in
+    let a = tall-accepted r ok in
+    record {
+      accepted = a;
+      header = ap₂ headerUnder (e ∙ sym a) (sym (tall-header r ok));
+      tally = ap₂ tallyUnder (e ∙ tally-checked (tallStrip r) (sym a)) (tall-tally r ok);
+      levels = tall-levels r ok;
+    }
