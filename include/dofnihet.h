@@ -4,21 +4,25 @@
  * contracts stand in crates/dofnihet/src.
  *
  * Every slice is a pointer and the number of its elements. The pointer is never NULL, not even where the number is 0, and is aligned for its
- * element. The slices of one call must not overlap. Sources and strips are only read; an output is written only where the call accepts, and
+ * element. The slices of one call must not overlap. Sources, strips and bands are only read; an output is written only where the call accepts, and
  * then only in its front. No call keeps a pointer, allocates, or changes anything else, so calls on different memory may run at once.
  *
+ * Bands are strips of one width and one key, one behind another in one row of words: whole rows of one tall page, the top band first. Each
+ * size word tells where the next band begins. Calls on bands answer for the tall page, however it is cut.
+ *
  * `number` is 0 where a call accepts; `place` is 0 then. A refusal has a number and a place: the index of the offending element or word for
- * 5 to 8, else 0.
+ * 5 to 8, else 0. In bands it is the word's index in the whole row.
  *
  *     1  bad size        width or height 0 or above 8192, or more than 16777216 pixels
  *     2  bad key         key 0 or above 1000
- *     3  wrong length    source or strip not of its exact length
+ *     3  wrong length    source or strip not of its exact length; no band, or a last one that is cut
  *     4  small tray      output shorter than the outcome
  *     5  no number       NaN or infinity
  *     6  too bright      channel above 2^56
  *     7  foreign word    kind, spare bits or end count wrong
  *     8  wild channel    neither (0,0) nor exponent 72..184 with mantissa 128..255
  *    20  no such row     row number not below the height
+ *    21  unlike bands    width or key unlike the first band's, or the bands together above the limits of 1
  *
  * Later versions add functions, and fields at the end of a struct; callers are then compiled anew.
  */
@@ -148,6 +152,21 @@ dofnihet_step dofnihet_step_of(const uint32_t *strip, size_t strip_len, uint64_t
  * `present` is 1 where a pixel is lit, else 0 with 0 in average and in every exponent and mantissa; a refusal has 0 in all ten.
  * Refuses as dofnihet_check does. */
 dofnihet_tally dofnihet_tally_of(const uint32_t *strip, size_t strip_len);
+
+/* Reads back width and key of bands, and the height of all together.
+ * A refusal has 0 in all three.
+ * Refuses, band by band, as dofnihet_check does, a band that the row cuts short with 3, then with 21. */
+dofnihet_header dofnihet_header_of_bands(const uint32_t *bands, size_t bands_len);
+
+/* Tallies bands: the tally of the tall page.
+ * The fields are as dofnihet_tally_of has them.
+ * Refuses as dofnihet_header_of_bands does. */
+dofnihet_tally dofnihet_tally_of_bands(const uint32_t *bands, size_t bands_len);
+
+/* Maps bands to levels, under the average of all: the levels of the tall page.
+ * They are left in the output's front, three bytes for each pixel of all bands; all are 0 where no pixel is lit.
+ * Refuses as dofnihet_header_of_bands does, with 4 last of all. */
+dofnihet_outcome dofnihet_map_bands(const uint32_t *bands, size_t bands_len, uint8_t *output, size_t output_len);
 
 /* Writes what stands before the levels in a Netpbm P6 picture: "P6", width, height, "255".
  * The output has 50 bytes, enough for any two numbers.

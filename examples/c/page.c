@@ -1,11 +1,11 @@
-/* A page of four grey pixels, given as half floats: converted into a strip, tallied, mapped, and one row of it found.
- * `tests/c_interface` builds and runs it. */
+/* A page of four grey pixels, given as half floats: converted into a strip, tallied, mapped, one row of it found, and mapped again from
+ * two bands. `tests/c_interface` builds and runs it. */
 #include "dofnihet.h"
 
 #include <inttypes.h>
 #include <stdio.h>
 
-enum { WIDTH = 2, HEIGHT = 2, PIXELS = WIDTH * HEIGHT };
+enum { WIDTH = 2, HEIGHT = 2, PIXELS = WIDTH * HEIGHT, BAND_WORDS = DOFNIHET_STRIP_LENGTH(WIDTH) };
 
 /* Greys 1.0 and 0.5 above, 0.5 and 1.0 below. */
 static const uint16_t source[3 * PIXELS] = {
@@ -17,6 +17,24 @@ static int refused(const char *call, uint64_t number, uint64_t place)
 {
     fprintf(stderr, "%s: refused %" PRIu64 " %" PRIu64 "\n", call, number, place);
     return 1;
+}
+
+/* The page shot as two bands of a row each, one behind the other: their levels are the page's. */
+static int map_two_bands(void)
+{
+    uint32_t bands[HEIGHT * BAND_WORDS];
+    dofnihet_page band = {.width = WIDTH, .height = 1, .key = 180};
+    for (int y = 0; y < HEIGHT; y++) {
+        dofnihet_outcome converted = dofnihet_convert_half(source + 3 * WIDTH * y, 3 * WIDTH, band, bands + BAND_WORDS * y, BAND_WORDS);
+        if (converted.number != 0)
+            return refused("convert", converted.number, converted.place);
+    }
+    uint8_t levels[3 * PIXELS];
+    dofnihet_outcome mapped = dofnihet_map_bands(bands, HEIGHT * BAND_WORDS, levels, sizeof levels);
+    if (mapped.number != 0)
+        return refused("map bands", mapped.number, mapped.place);
+    printf("levels of two bands: %d %d, %d %d\n", levels[0], levels[3], levels[6], levels[9]);
+    return 0;
 }
 
 int main(void)
@@ -50,5 +68,5 @@ int main(void)
     strip[row.start] = 0;
     dofnihet_outcome checked = dofnihet_check(strip, words);
     printf("damaged: refused %" PRIu64 " %" PRIu64 "\n", checked.number, checked.place);
-    return 0;
+    return map_two_bands();
 }

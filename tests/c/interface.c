@@ -97,6 +97,16 @@ static const uint32_t crossed[] = {0x10008001, 0x200000B4, 0x40008180, 0x5000818
 static const uint32_t coloured[] = {0x10004001, 0x200000B4, 0x400080FF, 0x50007FFF, 0x60000000, 0x70000001};
 static const uint32_t black[] = {0x10004001, 0x200000B4, 0x40000000, 0x50000000, 0x60000000, 0x70000001};
 
+/* Greys 1.0 and 0.5 again, 1 x 2, as two bands of one pixel; alone, each would have level 39. */
+static const uint32_t bands[] = {0x10004001, 0x200000B4, 0x400080FF, 0x500080FF, 0x600080FF, 0x70000001,
+                                 0x10004001, 0x200000B4, 0x40007FFF, 0x50007FFF, 0x60007FFF, 0x70000001};
+/* The same with a mantissa of 127 in the second band's blue. */
+static const uint32_t wild_bands[] = {0x10004001, 0x200000B4, 0x400080FF, 0x500080FF, 0x600080FF, 0x70000001,
+                                      0x10004001, 0x200000B4, 0x40007FFF, 0x50007FFF, 0x60007F7F, 0x70000001};
+/* The second band has key 181. */
+static const uint32_t unlike_bands[] = {0x10004001, 0x200000B4, 0x400080FF, 0x500080FF, 0x600080FF, 0x70000001,
+                                        0x10004001, 0x200000B5, 0x40007FFF, 0x50007FFF, 0x60007FFF, 0x70000001};
+
 static void readings(void)
 {
     print_outcome("check", dofnihet_check(greys, COUNT(greys)));
@@ -121,6 +131,20 @@ static void readings(void)
     print_tally("tally wild", dofnihet_tally_of(wild, COUNT(wild)));
 }
 
+static void readings_of_bands(void)
+{
+    print_header("header of bands", dofnihet_header_of_bands(bands, COUNT(bands)));
+    print_header("header of one band", dofnihet_header_of_bands(bands, 6));
+    print_header("header of no band", dofnihet_header_of_bands(bands, 0));
+    print_header("header of wild bands", dofnihet_header_of_bands(wild_bands, COUNT(wild_bands)));
+    print_header("header of unlike bands", dofnihet_header_of_bands(unlike_bands, COUNT(unlike_bands)));
+    print_tally("tally of bands", dofnihet_tally_of_bands(bands, COUNT(bands)));
+    print_tally("tally of no band", dofnihet_tally_of_bands(bands, 0));
+    print_tally("tally of cut bands", dofnihet_tally_of_bands(bands, COUNT(bands) - 1));
+    print_tally("tally of wild bands", dofnihet_tally_of_bands(wild_bands, COUNT(wild_bands)));
+    print_tally("tally of unlike bands", dofnihet_tally_of_bands(unlike_bands, COUNT(unlike_bands)));
+}
+
 static void print_codes(const char *call, dofnihet_outcome told, const uint16_t *codes, size_t count)
 {
     print_outcome(call, told);
@@ -135,6 +159,23 @@ static void print_levels(const char *call, dofnihet_outcome told, const uint8_t 
     for (size_t i = 0; i < count; i++)
         printf(" %u", (unsigned)levels[i]);
     printf("\n");
+}
+
+/* Maps bands into a new output of so many levels; one more is printed. */
+static void map_bands(const char *call, const uint32_t *words, size_t count, size_t room)
+{
+    uint8_t levels[8];
+    memset(levels, OLD, sizeof levels);
+    print_levels(call, dofnihet_map_bands(words, count, levels, room), levels, room + 1);
+}
+
+static void outputs_of_bands(void)
+{
+    map_bands("map bands", bands, COUNT(bands), 7);
+    map_bands("map bands into 5", bands, COUNT(bands), 5);
+    map_bands("map no band", bands, 0, 7);
+    map_bands("map wild bands into 5", wild_bands, COUNT(wild_bands), 5);
+    map_bands("map unlike bands", unlike_bands, COUNT(unlike_bands), 7);
 }
 
 static void outputs(void)
@@ -160,5 +201,7 @@ int main(void)
     conversions();
     readings();
     outputs();
+    readings_of_bands();
+    outputs_of_bands();
     return 0;
 }

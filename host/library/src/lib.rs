@@ -5,7 +5,7 @@ pub mod raw;
 
 use std::fmt;
 
-/// Why a call turns its input away, by document 01's list.
+/// Why a call turns its input away, by the list of documents 01 and 02.
 #[derive(Clone, Copy, Debug, PartialEq, Eq)]
 pub struct Refusal {
     pub number: u64,
@@ -25,8 +25,14 @@ impl Refusal {
             7 => "foreign word",
             8 => "wild channel",
             20 => "no such row",
+            21 => "unlike bands",
             _ => "unlisted",
         }
+    }
+
+    /// Whether the place is an element's or a word's; else it is 0.
+    pub fn has_place(&self) -> bool {
+        matches!(self.number, 5..=8)
     }
 }
 
@@ -96,6 +102,10 @@ pub enum Source<'a> {
     Stored(&'a [u16]),
 }
 
+/// The largest width and height.
+pub const MAX_SIDE: usize = 8192;
+pub const MAX_PIXELS: usize = 16_777_216;
+
 /// The number of words of the strip of a page.
 pub fn strip_length(pixels: usize) -> usize {
     3 * pixels + 3
@@ -135,7 +145,10 @@ pub fn map(strip: &[u32], output: &mut [u8]) -> Result<(), Refusal> {
 
 /// The header of a strip.
 pub fn header(strip: &[u32]) -> Result<Header, Refusal> {
-    let told = raw::header(strip);
+    header_told(raw::header(strip))
+}
+
+fn header_told(told: raw::Header) -> Result<Header, Refusal> {
     let header = Header {
         width: told.width,
         height: told.height,
@@ -160,7 +173,10 @@ pub fn step(strip: &[u32], n: u64) -> Result<Option<[u16; 3]>, Refusal> {
 
 /// The tally of a strip.
 pub fn tally(strip: &[u32]) -> Result<Tally, Refusal> {
-    let told = raw::tally(strip);
+    tally_told(raw::tally(strip))
+}
+
+fn tally_told(told: raw::Tally) -> Result<Tally, Refusal> {
     let average = Average {
         steps: told.average,
         exponent: told.exponent as u8,
@@ -183,6 +199,21 @@ pub fn tally(strip: &[u32]) -> Result<Tally, Refusal> {
         extremes: (told.present == 1).then_some(extremes),
     };
     accepted(told.number, told.place, tally)
+}
+
+/// The header of the tall page that bands, strips one behind another in one row, are cut from.
+pub fn header_of_bands(bands: &[u32]) -> Result<Header, Refusal> {
+    header_told(raw::header_of_bands(bands))
+}
+
+/// The tally of the tall page.
+pub fn tally_of_bands(bands: &[u32]) -> Result<Tally, Refusal> {
+    tally_told(raw::tally_of_bands(bands))
+}
+
+/// Leaves the levels of the tall page, three bytes a pixel, in the output's front.
+pub fn map_bands(bands: &[u32], output: &mut [u8]) -> Result<(), Refusal> {
+    done(raw::map_bands(bands, output))
 }
 
 /// What stands before the levels in a P6 picture.

@@ -76,6 +76,9 @@ extern "C" {
     fn dofnihet_row_of(strip: *const u32, strip_len: usize, y: u64) -> Row;
     fn dofnihet_step_of(strip: *const u32, strip_len: usize, n: u64) -> Step;
     fn dofnihet_tally_of(strip: *const u32, strip_len: usize) -> Tally;
+    fn dofnihet_header_of_bands(bands: *const u32, bands_len: usize) -> Header;
+    fn dofnihet_tally_of_bands(bands: *const u32, bands_len: usize) -> Tally;
+    fn dofnihet_map_bands(bands: *const u32, bands_len: usize, output: *mut u8, output_len: usize) -> Outcome;
     fn dofnihet_front_of(width: u64, height: u64, output: *mut u8) -> u64;
 }
 
@@ -121,6 +124,18 @@ pub fn step(strip: &[u32], n: u64) -> Step {
 
 pub fn tally(strip: &[u32]) -> Tally {
     unsafe { dofnihet_tally_of(strip.as_ptr(), strip.len()) }
+}
+
+pub fn header_of_bands(bands: &[u32]) -> Header {
+    unsafe { dofnihet_header_of_bands(bands.as_ptr(), bands.len()) }
+}
+
+pub fn tally_of_bands(bands: &[u32]) -> Tally {
+    unsafe { dofnihet_tally_of_bands(bands.as_ptr(), bands.len()) }
+}
+
+pub fn map_bands(bands: &[u32], output: &mut [u8]) -> Outcome {
+    unsafe { dofnihet_map_bands(bands.as_ptr(), bands.len(), output.as_mut_ptr(), output.len()) }
 }
 
 /// Answers how many bytes were written.
