@@ -122,10 +122,10 @@ fn strip_fault(compare: &mut Compare, random: &mut Random) -> Result<(), Differe
 pub fn strip_fault_case(compare: &mut Compare, list: &[strip_faults::Fault]) -> Result<(), Difference> {
     use strip_faults::{first, Asked, Case};
     let Case { strip, y, room } = Case::sound().with(list);
-    let tally = compare.tally(&strip)?;
+    let (header, tally) = (compare.header(&strip)?, compare.tally(&strip)?);
     let mut answers = vec![
         (Asked::Strip, compare.check(&strip)?),
-        (Asked::Strip, compare.header(&strip)?),
+        (Asked::Strip, (header.number, header.place)),
         (Asked::Strip, (tally.number, tally.place)),
         (Asked::Row, compare.row(&strip, y)?),
         (Asked::Output, compare.unpack(&strip, room)?),
