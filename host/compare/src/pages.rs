@@ -53,6 +53,15 @@ impl Page {
             channels: pixels.concat(),
         }
     }
+
+    /// One column of pixels.
+    pub fn column(key: u64, pixels: &[[u16; 3]]) -> Page {
+        Page {
+            width: 1,
+            height: pixels.len() as u64,
+            ..Page::row(key, pixels)
+        }
+    }
 }
 
 pub const fn stored(exponent: u64, mantissa: u64) -> u16 {
