@@ -62,9 +62,13 @@ pub fn darken(random: &mut Random, page: &mut Page) {
     }
 }
 
-/// A small page of some look, dark rows among its lit ones or not, with enough rows to be cut.
+/// A page of some look, with enough rows to be cut; dark rows among its lit ones or not.
 pub fn page(random: &mut Random) -> Page {
-    let (width, height) = (random.between(1, 6), random.between(1, 12));
+    let (width, height) = match random.below(400) {
+        0 => (random.between(1, 3), random.between(1, 8192)),
+        1..=20 => (random.between(1, 60), random.between(1, 100)),
+        _ => (random.between(1, 6), random.between(1, 12)),
+    };
     let look = random.pick(&LOOKS);
     let mut page = pages::page(random, look, width, height);
     if random.one_in(3) {

@@ -1,6 +1,7 @@
 //! The proved library held against the second tone step, call by call, through the C interface. Generators of pages, sources, faults and
 //! damage; comparisons that see every field and every element of lent memory; demand 3 of document 01 on each lit page.
 
+pub mod band_faults;
 pub mod bands;
 pub mod calls;
 pub mod compare;
