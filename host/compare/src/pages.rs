@@ -56,10 +56,15 @@ impl Page {
 
     /// One column of pixels.
     pub fn column(key: u64, pixels: &[[u16; 3]]) -> Page {
+        Page::row(key, pixels).turned()
+    }
+
+    /// A row as a column, or a column as a row.
+    pub fn turned(self) -> Page {
         Page {
-            width: 1,
-            height: pixels.len() as u64,
-            ..Page::row(key, pixels)
+            width: self.height,
+            height: self.width,
+            ..self
         }
     }
 }
