@@ -12,6 +12,7 @@ pub mod elements;
 pub mod lent;
 pub mod limits;
 pub mod pages;
+pub mod planted;
 pub mod powers;
 pub mod program;
 pub mod random;

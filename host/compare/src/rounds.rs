@@ -1,4 +1,4 @@
-//! One round: new pages, sources, damage and faults from one seed, each compared.
+//! One round: new pages, sources, bands, damage and faults from one seed, each compared.
 
 use crate::compare::{show_source, show_strip, step_numbers, Compare, Difference, Told, ACCEPTED};
 use crate::elements::{Elements, KINDS};

@@ -1,6 +1,6 @@
 //! Rows of bands that are refused: each fault and each pair of faults, cut and lengthened rows, damaged words, and sizes around the limits.
 
-use compare::band_faults::{faults, together};
+use compare::band_faults::{alone_and_in_pairs, faults};
 use compare::pages::{self, Look};
 use compare::rounds::band_fault_case;
 use compare::{bands, damage, same, Compare, Library, Random};
@@ -9,18 +9,14 @@ const SEED: u64 = 1501;
 
 /// Each fault in each of three bands, and each pair in one band and in two, for every call.
 #[test]
-fn pairs() {
+fn one_and_two_faults() {
     let mut compare = Compare::new(&Library);
-    let list = faults();
-    let pairs = (0..list.len()).flat_map(|j| (0..=j).map(move |i| (i, j)));
-    let mut cases = 0;
-    for (i, j) in pairs.filter(|&(i, j)| i == j || together(list[i], list[j])) {
-        let faults = if i == j { vec![list[i]] } else { vec![list[i], list[j]] };
-        band_fault_case(&mut compare, &faults).unwrap();
-        cases += 1;
+    let cases = alone_and_in_pairs(&faults());
+    for faults in &cases {
+        band_fault_case(&mut compare, faults).unwrap();
     }
     band_fault_case(&mut compare, &[]).unwrap();
-    println!("faults of bands: {cases} cases, {}", compare.counts);
+    println!("faults of bands: {} cases, {}", cases.len(), compare.counts);
 }
 
 /// Rows of bands cut at every length: only an end between two bands leaves a row.
