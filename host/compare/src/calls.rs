@@ -1,23 +1,9 @@
-//! The calls that are compared, as the C interface answers them. The trait lets a self-check put a wrong answer in their place.
+//! The calls that are compared: each as the C interface answers it, unless a self-check puts a wrong answer in its place.
 
 use dofnihet::raw::{self, Header as RawHeader, Outcome, Row, Step, Tally};
 use dofnihet::{Header, Source};
 
 pub trait Calls: Sync {
-    fn convert(&self, source: Source, header: Header, output: &mut [u32]) -> Outcome;
-    fn check(&self, strip: &[u32]) -> Outcome;
-    fn unpack(&self, strip: &[u32], output: &mut [u16]) -> Outcome;
-    fn map(&self, strip: &[u32], output: &mut [u8]) -> Outcome;
-    fn header(&self, strip: &[u32]) -> RawHeader;
-    fn row(&self, strip: &[u32], y: u64) -> Row;
-    fn step(&self, strip: &[u32], n: u64) -> Step;
-    fn tally(&self, strip: &[u32]) -> Tally;
-}
-
-/// The static library.
-pub struct Library;
-
-impl Calls for Library {
     fn convert(&self, source: Source, header: Header, output: &mut [u32]) -> Outcome {
         raw::convert(source, header, output)
     }
@@ -49,4 +35,21 @@ impl Calls for Library {
     fn tally(&self, strip: &[u32]) -> Tally {
         raw::tally(strip)
     }
+
+    fn header_of_bands(&self, bands: &[u32]) -> RawHeader {
+        raw::header_of_bands(bands)
+    }
+
+    fn tally_of_bands(&self, bands: &[u32]) -> Tally {
+        raw::tally_of_bands(bands)
+    }
+
+    fn map_bands(&self, bands: &[u32], output: &mut [u8]) -> Outcome {
+        raw::map_bands(bands, output)
+    }
 }
+
+/// The static library.
+pub struct Library;
+
+impl Calls for Library {}

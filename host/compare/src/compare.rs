@@ -34,8 +34,8 @@ pub fn same<T>(seed: u64, answer: Result<T, Difference>) -> T {
 }
 
 pub struct Compare<'a> {
-    calls: &'a dyn Calls,
-    second: SecondStep,
+    pub(crate) calls: &'a dyn Calls,
+    pub(crate) second: SecondStep,
     pub counts: Counts,
     /// The first half of demand 3 is checked on each page of at most so many lit pixels.
     pub mean_limit: u64,
@@ -85,104 +85,64 @@ impl<'a> Compare<'a> {
     }
 
     pub fn check(&mut self, strip: &[u32]) -> Result<Told, Difference> {
-        let expected = self.second.check(strip);
-        let read = strip.to_vec();
-        let outcome = self.calls.check(&read);
+        let (calls, told) = (self.calls, told(&self.second.check(strip)));
         let what = || format!("check {}", show_strip(strip));
-        unchanged(strip, std::hint::black_box(&read), &what)?;
-        self.outcome(&expected, outcome, &what)
+        let expected = Outcome {
+            number: told.0,
+            place: told.1,
+        };
+        self.read(strip, told, expected, |read| calls.check(read), &what)?;
+        Ok(told)
     }
 
-    pub fn header(&mut self, strip: &[u32]) -> Result<Told, Difference> {
-        let expected = self.second.header(strip);
-        let (number, place) = told(&expected);
-        let (width, height, key) = expected.map_or((0, 0, 0), |h| (h.width, h.height, h.key));
-        let read = strip.to_vec();
-        let answer = self.calls.header(&read);
+    pub fn header(&mut self, strip: &[u32]) -> Result<RawHeader, Difference> {
+        let (calls, expected) = (self.calls, self.second.header(strip));
         let what = || format!("header of {}", show_strip(strip));
-        unchanged(strip, std::hint::black_box(&read), &what)?;
-        let expected = RawHeader {
-            number,
-            place,
-            width,
-            height,
-            key,
-        };
-        self.count((number, place));
-        equal(&expected, &answer, &what)?;
-        Ok((number, place))
+        self.read(strip, told(&expected), raw_header(&expected), |read| calls.header(read), &what)
     }
 
     pub fn row(&mut self, strip: &[u32], y: u64) -> Result<Told, Difference> {
-        let expected = self.second.row(strip, y);
+        let (calls, expected) = (self.calls, self.second.row(strip, y));
+        let what = || format!("row {y} of {}", show_strip(strip));
         let (number, place) = told(&expected);
         let part = expected.unwrap_or(0..0);
-        let read = strip.to_vec();
-        let answer = self.calls.row(&read, y);
-        let what = || format!("row {y} of {}", show_strip(strip));
-        unchanged(strip, std::hint::black_box(&read), &what)?;
         let expected = Row {
             number,
             place,
             start: part.start as u64,
             length: part.len() as u64,
         };
-        self.count((number, place));
-        equal(&expected, &answer, &what)?;
+        self.read(strip, (number, place), expected, |read| calls.row(read, y), &what)?;
         Ok((number, place))
     }
 
     /// Step n of a reader, as the library told it.
     pub fn step(&mut self, strip: &[u32], n: u64) -> Result<Step, Difference> {
-        let expected = raw_step(&self.second.reader_step(strip, n));
-        let read = strip.to_vec();
-        let answer = self.calls.step(&read, n);
+        let (calls, expected) = (self.calls, self.second.reader_step(strip, n));
         let what = || format!("step {n} of {}", show_strip(strip));
-        unchanged(strip, std::hint::black_box(&read), &what)?;
-        self.count((expected.number, expected.place));
-        equal(&expected, &answer, &what)?;
-        Ok(answer)
+        self.read(strip, told(&expected), raw_step(&expected), |read| calls.step(read, n), &what)
     }
 
     /// The tally, as the library told it.
     pub fn tally(&mut self, strip: &[u32]) -> Result<Tally, Difference> {
-        let expected = raw_tally(&self.second.tally(strip));
-        let read = strip.to_vec();
-        let answer = self.calls.tally(&read);
+        let (calls, expected) = (self.calls, self.second.tally(strip));
         let what = || format!("tally of {}", show_strip(strip));
-        unchanged(strip, std::hint::black_box(&read), &what)?;
-        self.count((expected.number, expected.place));
-        equal(&expected, &answer, &what)?;
-        Ok(answer)
+        self.read(strip, told(&expected), raw_tally(&expected), |read| calls.tally(read), &what)
     }
 
     /// Unpacking into an output of so many elements.
     pub fn unpack(&mut self, strip: &[u32], room: usize) -> Result<Told, Difference> {
-        let expected = self.second.unpack(strip, room);
-        let read = strip.to_vec();
-        let mut output = self.lend::<u16>(room);
-        let outcome = self.calls.unpack(&read, output.output());
+        let (calls, expected) = (self.calls, self.second.unpack(strip, room));
         let what = || format!("unpack {}, room {room}", show_strip(strip));
-        unchanged(strip, std::hint::black_box(&read), &what)?;
-        let told = self.outcome(&expected, outcome, &what)?;
-        output
-            .holds(&expected.unwrap_or_default())
-            .map_err(|fault| different(&what, fault))?;
+        let (told, _) = self.write(strip, room, expected, |read, output| calls.unpack(read, output), &what)?;
         Ok(told)
     }
 
     /// Mapping into an output of so many bytes; the levels as the library left them, none where both refuse.
     pub fn map(&mut self, strip: &[u32], room: usize) -> Result<(Told, Vec<u8>), Difference> {
-        let expected = self.second.levels(strip, room);
-        let read = strip.to_vec();
-        let mut output = self.lend::<u8>(room);
-        let outcome = self.calls.map(&read, output.output());
+        let (calls, expected) = (self.calls, self.second.levels(strip, room));
         let what = || format!("map {}, room {room}", show_strip(strip));
-        unchanged(strip, std::hint::black_box(&read), &what)?;
-        let told = self.outcome(&expected, outcome, &what)?;
-        let levels = expected.unwrap_or_default();
-        output.holds(&levels).map_err(|fault| different(&what, fault))?;
-        Ok((told, output.front(levels.len()).to_vec()))
+        self.write(strip, room, expected, |read, output| calls.map(read, output), &what)
     }
 
     /// Every call on a strip, with several rows, steps and outputs, and demand 3 where the page is lit.
@@ -256,6 +216,42 @@ impl<'a> Compare<'a> {
         }
     }
 
+    /// A call that only reads words; its answer is told where it is the expected one.
+    pub(crate) fn read<T: PartialEq + fmt::Debug>(
+        &mut self,
+        words: &[u32],
+        told: Told,
+        expected: T,
+        call: impl Fn(&[u32]) -> T,
+        what: &dyn Fn() -> String,
+    ) -> Result<T, Difference> {
+        let read = words.to_vec();
+        let answer = call(&read);
+        unchanged(words, std::hint::black_box(&read), what)?;
+        self.count(told);
+        equal(&expected, &answer, what)?;
+        Ok(answer)
+    }
+
+    /// A call that reads words and is lent an output of so many elements; what it left there, nothing where both refuse.
+    pub(crate) fn write<T: Element>(
+        &mut self,
+        words: &[u32],
+        room: usize,
+        expected: Result<Vec<T>, Refusal>,
+        call: impl Fn(&[u32], &mut [T]) -> Outcome,
+        what: &dyn Fn() -> String,
+    ) -> Result<(Told, Vec<T>), Difference> {
+        let read = words.to_vec();
+        let mut output = self.lend::<T>(room);
+        let outcome = call(&read, output.output());
+        unchanged(words, std::hint::black_box(&read), what)?;
+        let told = self.outcome(&expected, outcome, what)?;
+        let made = expected.unwrap_or_default();
+        output.holds(&made).map_err(|fault| different(what, fault))?;
+        Ok((told, output.front(made.len()).to_vec()))
+    }
+
     fn lend<T: Element>(&mut self, room: usize) -> Lent<T> {
         self.salt += 1;
         Lent::new(room, self.salt.wrapping_mul(0xD6E8_FEB8_6659_FD93))
@@ -274,10 +270,23 @@ impl<'a> Compare<'a> {
     }
 }
 
-fn told<T>(answer: &Result<T, Refusal>) -> Told {
+pub(crate) fn told<T>(answer: &Result<T, Refusal>) -> Told {
     match answer {
         Ok(_) => ACCEPTED,
         Err(refusal) => (refusal.number, refusal.place),
+    }
+}
+
+/// The five fields of a header; free fields are 0.
+pub fn raw_header(answer: &Result<second::Header, Refusal>) -> RawHeader {
+    let (number, place) = told(answer);
+    let (width, height, key) = answer.as_ref().map_or((0, 0, 0), |h| (h.width, h.height, h.key));
+    RawHeader {
+        number,
+        place,
+        width,
+        height,
+        key,
     }
 }
 
@@ -344,7 +353,7 @@ fn source_room(source: Source) -> usize {
 }
 
 /// Outputs beside the longer one: exact, too short by one, empty; on a long page only too short by one.
-fn other_rooms(needed: usize) -> Vec<usize> {
+pub(crate) fn other_rooms(needed: usize) -> Vec<usize> {
     match needed {
         0 => vec![0],
         1..=10_000 => vec![needed, needed - 1, 0],
@@ -380,11 +389,11 @@ pub fn step_numbers(strip: &[u32]) -> Vec<u64> {
     numbers
 }
 
-fn different(what: &dyn Fn() -> String, fault: String) -> Difference {
+pub(crate) fn different(what: &dyn Fn() -> String, fault: String) -> Difference {
     Difference(format!("{}: {fault}", what()))
 }
 
-fn equal<T: PartialEq + fmt::Debug>(second: &T, library: &T, what: &dyn Fn() -> String) -> Result<(), Difference> {
+pub(crate) fn equal<T: PartialEq + fmt::Debug>(second: &T, library: &T, what: &dyn Fn() -> String) -> Result<(), Difference> {
     match second == library {
         true => Ok(()),
         false => Err(different(

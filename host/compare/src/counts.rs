@@ -7,7 +7,7 @@ pub struct Counts {
     /// Calls made on both sides, and those that both refused.
     pub calls: u64,
     pub refused: u64,
-    /// Accepted strips whose levels were compared, their pixels, and those of lit pages whose distance was measured.
+    /// Accepted strips and rows of bands whose levels were compared, their pixels, and those of lit pages whose distance was measured.
     pub pages: u64,
     pub pixels: u64,
     pub levels: u64,

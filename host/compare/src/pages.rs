@@ -53,6 +53,20 @@ impl Page {
             channels: pixels.concat(),
         }
     }
+
+    /// One column of pixels.
+    pub fn column(key: u64, pixels: &[[u16; 3]]) -> Page {
+        Page::row(key, pixels).turned()
+    }
+
+    /// A row as a column, or a column as a row.
+    pub fn turned(self) -> Page {
+        Page {
+            width: self.height,
+            height: self.width,
+            ..self
+        }
+    }
 }
 
 pub const fn stored(exponent: u64, mantissa: u64) -> u16 {

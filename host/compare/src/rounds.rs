@@ -1,11 +1,11 @@
-//! One round: new pages, sources, damage and faults from one seed, each compared.
+//! One round: new pages, sources, bands, damage and faults from one seed, each compared.
 
 use crate::compare::{show_source, show_strip, step_numbers, Compare, Difference, Told, ACCEPTED};
 use crate::elements::{Elements, KINDS};
 use crate::pages::Page;
 use crate::program::{self, Printed};
 use crate::random::Random;
-use crate::{damage, pages, source_faults, strip_faults, values};
+use crate::{band_faults, bands, damage, pages, source_faults, strip_faults, values};
 use dofnihet::Header;
 
 pub fn round(compare: &mut Compare, seed: u64) -> Result<(), Difference> {
@@ -17,6 +17,10 @@ pub fn round(compare: &mut Compare, seed: u64) -> Result<(), Difference> {
     source_fault(compare, random)?;
     for _ in 0..4 {
         strip_fault(compare, random)?;
+    }
+    bands(compare, random)?;
+    for _ in 0..4 {
+        band_fault(compare, random)?;
     }
     Ok(())
 }
@@ -122,10 +126,10 @@ fn strip_fault(compare: &mut Compare, random: &mut Random) -> Result<(), Differe
 pub fn strip_fault_case(compare: &mut Compare, list: &[strip_faults::Fault]) -> Result<(), Difference> {
     use strip_faults::{first, Asked, Case};
     let Case { strip, y, room } = Case::sound().with(list);
-    let tally = compare.tally(&strip)?;
+    let (header, tally) = (compare.header(&strip)?, compare.tally(&strip)?);
     let mut answers = vec![
         (Asked::Strip, compare.check(&strip)?),
-        (Asked::Strip, compare.header(&strip)?),
+        (Asked::Strip, (header.number, header.place)),
         (Asked::Strip, (tally.number, tally.place)),
         (Asked::Row, compare.row(&strip, y)?),
         (Asked::Output, compare.unpack(&strip, room)?),
@@ -139,6 +143,52 @@ pub fn strip_fault_case(compare: &mut Compare, list: &[strip_faults::Fault]) -> 
         if told != first(list, asked) {
             return Err(Difference(format!(
                 "the list does not tell {told:?} for {list:?}, asked for {asked:?}"
+            )));
+        }
+    }
+    Ok(())
+}
+
+/// A page cut into bands, whole and damaged, and bands of several pages.
+fn bands(compare: &mut Compare, random: &mut Random) -> Result<(), Difference> {
+    let page = bands::page(random);
+    let heights = bands::cutting(random, page.height);
+    compare.cutting(&page, &heights)?;
+    let row = bands::row(&page, &heights);
+    for _ in 0..4 {
+        compare.bands(&damage::random(random, &row))?;
+    }
+    let several: Vec<u32> = bands::several(random).iter().flat_map(Page::strip).collect();
+    compare.bands(&several)?;
+    Ok(())
+}
+
+/// Up to three faults of a row of bands at once.
+fn band_fault(compare: &mut Compare, random: &mut Random) -> Result<(), Difference> {
+    let mut list: Vec<band_faults::Fault> = Vec::new();
+    for fault in some(random, &band_faults::faults()) {
+        if list.iter().all(|other| band_faults::together(*other, fault)) {
+            list.push(fault);
+        }
+    }
+    band_fault_case(compare, &list)
+}
+
+/// Every call on a row of bands with these faults, and what is told first.
+pub fn band_fault_case(compare: &mut Compare, list: &[band_faults::Fault]) -> Result<(), Difference> {
+    let case = band_faults::Case::new(list);
+    let row = case.row();
+    let (header, tally) = (compare.header_of_bands(&row)?, compare.tally_of_bands(&row)?);
+    let (mapped, _) = compare.map_bands(&row, case.room())?;
+    let answers = [
+        (false, (header.number, header.place)),
+        (false, (tally.number, tally.place)),
+        (true, mapped),
+    ];
+    for (output, told) in answers {
+        if told != band_faults::first(list, output) {
+            return Err(Difference(format!(
+                "the request does not tell {told:?} for {list:?}, output {output}"
             )));
         }
     }

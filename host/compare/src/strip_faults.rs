@@ -64,7 +64,7 @@ impl Case {
         self
     }
 
-    fn put(&mut self, fault: Fault) {
+    pub fn put(&mut self, fault: Fault) {
         let strip = &mut self.strip;
         match fault {
             Fault::FirstKind(kind) => strip[0] = strip[0] & 0x0FFF_FFFF | kind << 28,
@@ -120,7 +120,7 @@ pub fn together(one: Fault, other: Fault) -> bool {
 }
 
 /// Where the list asks for the fault.
-fn order(fault: Fault) -> usize {
+pub fn order(fault: Fault) -> usize {
     match fault {
         Fault::Short(_) => 0,
         Fault::FirstKind(_) => 1,
@@ -136,7 +136,8 @@ fn order(fault: Fault) -> usize {
     }
 }
 
-fn answer(fault: Fault) -> Told {
+/// What the list answers where it is the first.
+pub fn answer(fault: Fault) -> Told {
     match fault {
         Fault::Short(_) | Fault::Length(_) => (3, 0),
         Fault::FirstKind(_) => (7, 0),

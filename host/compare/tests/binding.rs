@@ -1,9 +1,10 @@
 //! The Rust binding's calls beside the C interface's: the same answers as slices and results.
 
 use compare::compare::step_numbers;
-use compare::pages::{self, LOOKS};
-use compare::{damage, values, Calls, Elements, Library, Random};
-use dofnihet::{Average, Extremes, Header, Refusal, Stored, Tally};
+use compare::pages::{self, Page, LOOKS};
+use compare::{bands, damage, values, Calls, Elements, Library, Random};
+use dofnihet::{raw, Average, Extremes, Header, Refusal, Stored, Tally};
+use std::fmt;
 
 const SEED: u64 = 1201;
 
@@ -21,19 +22,37 @@ fn stored(exponent: u64, mantissa: u64) -> Stored {
     }
 }
 
+fn header(told: raw::Header) -> Result<Header, Refusal> {
+    let raw::Header { width, height, key, .. } = told;
+    refusal(told.number, told.place).map(|_| Header { width, height, key })
+}
+
+fn tally(told: raw::Tally) -> Result<Tally, Refusal> {
+    let average = Average {
+        steps: told.average,
+        exponent: told.exponent as u8,
+        mantissa: told.mantissa as u8,
+    };
+    let extremes = Extremes {
+        darkest: stored(told.darkest_exponent, told.darkest_mantissa),
+        brightest: stored(told.brightest_exponent, told.brightest_mantissa),
+    };
+    let expected = Tally {
+        lit: told.lit,
+        sum: told.sum,
+        average: if told.present == 1 { Some(average) } else { None },
+        extremes: if told.present == 1 { Some(extremes) } else { None },
+    };
+    refusal(told.number, told.place).map(|_| expected)
+}
+
 /// Every call of the binding on a strip.
 fn same(strip: &[u32], y: u64) {
     let outcome = Library.check(strip);
     let told = refusal(outcome.number, outcome.place);
     assert_eq!(dofnihet::check(strip), told);
 
-    let header = Library.header(strip);
-    let expected = Header {
-        width: header.width,
-        height: header.height,
-        key: header.key,
-    };
-    assert_eq!(dofnihet::header(strip), told.map(|_| expected));
+    assert_eq!(dofnihet::header(strip), header(Library.header(strip)));
 
     let row = Library.row(strip, y);
     let part = &strip[row.start as usize..(row.start + row.length) as usize];
@@ -46,47 +65,44 @@ fn same(strip: &[u32], y: u64) {
         assert_eq!(dofnihet::step(strip, n), told.map(|_| expected));
     }
 
-    let tally = Library.tally(strip);
-    let average = Average {
-        steps: tally.average,
-        exponent: tally.exponent as u8,
-        mantissa: tally.mantissa as u8,
-    };
-    let extremes = Extremes {
-        darkest: stored(tally.darkest_exponent, tally.darkest_mantissa),
-        brightest: stored(tally.brightest_exponent, tally.brightest_mantissa),
-    };
-    let expected = Tally {
-        lit: tally.lit,
-        sum: tally.sum,
-        average: if tally.present == 1 { Some(average) } else { None },
-        extremes: if tally.present == 1 { Some(extremes) } else { None },
-    };
-    assert_eq!(dofnihet::tally(strip), told.map(|_| expected));
+    assert_eq!(dofnihet::tally(strip), tally(Library.tally(strip)));
     outputs(strip);
+}
+
+/// A call of both with an output of so many elements.
+fn written<T: Clone + fmt::Debug + From<u8> + PartialEq>(
+    room: usize,
+    bound: impl Fn(&mut [T]) -> Result<(), Refusal>,
+    raw: impl Fn(&mut [T]) -> raw::Outcome,
+) {
+    let [mut by_bound, mut by_raw] = [0; 2].map(|_| vec![T::from(7); room]);
+    let outcome = raw(&mut by_raw);
+    assert_eq!(bound(&mut by_bound), refusal(outcome.number, outcome.place));
+    assert_eq!(by_bound, by_raw);
 }
 
 fn outputs(strip: &[u32]) {
     for room in [strip.len(), strip.len().saturating_sub(4)] {
-        let (mut bound, mut raw) = (vec![7; room], vec![7; room]);
-        let outcome = Library.unpack(strip, &mut raw);
-        assert_eq!(dofnihet::unpack(strip, &mut bound), refusal(outcome.number, outcome.place));
-        assert_eq!(bound, raw);
-        let (mut bound, mut raw) = (vec![7; room], vec![7; room]);
-        let outcome = Library.map(strip, &mut raw);
-        assert_eq!(dofnihet::map(strip, &mut bound), refusal(outcome.number, outcome.place));
-        assert_eq!(bound, raw);
+        written(room, |to| dofnihet::unpack(strip, to), |to| Library.unpack(strip, to));
+        written(room, |to| dofnihet::map(strip, to), |to| Library.map(strip, to));
+    }
+}
+
+/// Every call of the binding on a row of bands.
+fn same_of_bands(row: &[u32]) {
+    assert_eq!(dofnihet::header_of_bands(row), header(Library.header_of_bands(row)));
+    assert_eq!(dofnihet::tally_of_bands(row), tally(Library.tally_of_bands(row)));
+    for room in [row.len(), row.len() / 2] {
+        written(room, |to| dofnihet::map_bands(row, to), |to| Library.map_bands(row, to));
     }
 }
 
 fn converted(elements: &Elements, header: Header, room: usize) {
-    let (mut bound, mut raw) = (vec![7; room], vec![7; room]);
-    let outcome = Library.convert(elements.source(), header, &mut raw);
-    assert_eq!(
-        dofnihet::convert(elements.source(), header, &mut bound),
-        refusal(outcome.number, outcome.place)
+    written(
+        room,
+        |to| dofnihet::convert(elements.source(), header, to),
+        |to| Library.convert(elements.source(), header, to),
     );
-    assert_eq!(bound, raw);
 }
 
 #[test]
@@ -106,4 +122,18 @@ fn binding() {
         strips += 2;
     }
     println!("binding, seed {SEED}: {strips} strips, {} sources", 2 * strips);
+}
+
+#[test]
+fn binding_of_bands() {
+    let seed = SEED + 1;
+    let random = &mut Random::new(seed);
+    for _ in 0..500 {
+        let page = bands::page(random);
+        let row = bands::row(&page, &bands::cutting(random, page.height));
+        same_of_bands(&row);
+        same_of_bands(&damage::random(random, &row));
+        same_of_bands(&bands::several(random).iter().flat_map(Page::strip).collect::<Vec<u32>>());
+    }
+    println!("binding of bands, seed {seed}: 1500 rows");
 }

@@ -1,9 +1,19 @@
-//! Demand 3: the first half on pages of up to 2,000 lit pixels, and pages that drive both halves to their limits.
+//! Demand 3: the first half on pages of up to 2,000 lit pixels, and pages that drive both halves to their limits; each also of bands.
 
 use compare::pages::{self, Look, Page, LOOKS};
-use compare::{limits, same, Compare, Library, Random};
+use compare::{bands, limits, same, Compare, Library, Random};
 
 const SEED: u64 = 701;
+
+const LEAST: [u16; 3] = [0, 0, pages::DIM];
+const GREATEST: [u16; 3] = [pages::BRIGHT; 3];
+/// The least and the greatest luminance with the keys that drive the scaled one to its limits, and with the others.
+const SCALED: [([u16; 3], [u16; 3], u64); 4] = [
+    (GREATEST, LEAST, 1),
+    (LEAST, GREATEST, 1000),
+    (GREATEST, LEAST, 1000),
+    (LEAST, GREATEST, 1),
+];
 
 /// Pages of up to 120 pixels of each look.
 #[test]
@@ -91,17 +101,11 @@ fn levels_at_limits() {
     println!("levels at limits, seed {seed}: {}", compare.counts);
 }
 
-/// The least luminance among the greatest and the other way round, with the keys that drive the scaled luminance to its limits.
+/// The least luminance among the greatest and the other way round.
 #[test]
 fn scaled_luminances_at_limits() {
     let mut compare = Compare::new(&Library);
-    let (least, greatest) = ([0, 0, pages::DIM], [pages::BRIGHT; 3]);
-    for (common, odd, key) in [
-        (greatest, least, 1),
-        (least, greatest, 1000),
-        (greatest, least, 1000),
-        (least, greatest, 1),
-    ] {
+    for (common, odd, key) in SCALED {
         for count in [2, 8, 100, 8192] {
             let mut pixels = vec![common; count];
             pixels[count / 2] = odd;
@@ -109,4 +113,70 @@ fn scaled_luminances_at_limits() {
         }
     }
     println!("scaled luminances at limits: {}", compare.counts);
+}
+
+/// Pages of up to 120 pixels of each look in bands: the mean is that of all lit pixels together.
+#[test]
+fn means_of_bands() {
+    let seed = SEED + 4;
+    let (random, mut compare) = (&mut Random::new(seed), Compare::new(&Library));
+    compare.mean_limit = 2_000;
+    for (look, _) in LOOKS.iter().flat_map(|look| (0..12).map(move |i| (*look, i))) {
+        let (width, height) = (random.between(1, 10), random.between(2, 12));
+        let mut page = pages::page(random, look, width, height);
+        if random.one_in(3) {
+            bands::darken(random, &mut page);
+        }
+        let heights = bands::cutting(random, height);
+        same(seed, compare.cutting(&page, &heights));
+    }
+    println!("means of bands, seed {seed}: {}", compare.counts);
+}
+
+/// The greys that push the mean to a limit, one below another in bands.
+#[test]
+fn means_of_bands_at_limits() {
+    let seed = SEED + 5;
+    let (random, mut compare) = (&mut Random::new(seed), Compare::new(&Library));
+    compare.mean_limit = 2_000;
+    for (count, far) in (2..60).chain([100, 200]).flat_map(|count| [(count, false), (count, true)]) {
+        let page = limits::page(random, count, far).turned();
+        let heights = bands::cutting(random, count);
+        same(seed, compare.cutting(&page, &heights));
+    }
+    assert!(compare.counts.mean_low < 0.03 && compare.counts.mean_high > 1.95);
+    println!("means of bands at limits, seed {seed}: {}", compare.counts);
+}
+
+/// Levels of bands with each key at the limits. Bands of sparks and specks have averages far from the joined one.
+#[test]
+fn levels_of_bands_at_limits() {
+    let seed = SEED + 6;
+    let (random, mut compare) = (&mut Random::new(seed), Compare::new(&Library));
+    for (key, look) in [1, 180, 1000]
+        .iter()
+        .flat_map(|key| [Look::Spark, Look::Speck, Look::Far, Look::Single, Look::Edges, Look::Wide].map(|look| (*key, look)))
+    {
+        for heights in [[1; 12].to_vec(), vec![4; 3], vec![11, 1], vec![1, 11]] {
+            let mut page = pages::page(random, look, 20, 12);
+            page.key = key;
+            same(seed, compare.cutting(&page, &heights));
+        }
+    }
+    println!("levels of bands at limits, seed {seed}: {}", compare.counts);
+}
+
+/// A band of the least luminance below one of the greatest and the other way round.
+#[test]
+fn scaled_luminances_of_bands_at_limits() {
+    let mut compare = Compare::new(&Library);
+    for (upper, lower, key) in SCALED {
+        for (count, odd) in [(2, 1), (8, 1), (100, 1), (100, 50), (8192, 1)] {
+            let mut pixels = vec![upper; count];
+            pixels[count - odd..].fill(lower);
+            let page = Page::column(key, &pixels);
+            compare.cutting(&page, &[(count - odd) as u64, odd as u64]).unwrap();
+        }
+    }
+    println!("scaled luminances of bands at limits: {}", compare.counts);
 }

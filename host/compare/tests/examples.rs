@@ -1,9 +1,10 @@
-//! The worked examples of document 01 through the C interface. Every expected value is the paper's, or follows from its rules where a
+//! The worked examples of document 01 through the C interface, as strips and in bands. Every expected value is the paper's, or follows from its rules where a
 //! comment says how.
 
 use compare::compare::raw_step;
 use compare::pages::{header, stored, Page};
 use compare::{program, Calls, Elements, Library};
+use dofnihet::raw::Tally;
 use second::whole::Whole;
 
 /// The strip of a source of one row, or the refusal.
@@ -43,9 +44,18 @@ fn levels(strip: &[u32]) -> Vec<u8> {
     levels
 }
 
-/// Darkest and brightest.
+fn levels_of_bands(row: &[u32]) -> Vec<u8> {
+    let mut levels = vec![0; 3 * Library.header_of_bands(row).height as usize];
+    assert_eq!(Library.map_bands(row, &mut levels).number, 0);
+    levels
+}
+
 fn extremes(strip: &[u32]) -> [(u64, u64); 2] {
-    let tally = Library.tally(strip);
+    both(Library.tally(strip))
+}
+
+/// Darkest and brightest.
+fn both(tally: Tally) -> [(u64, u64); 2] {
     [
         (tally.darkest_exponent, tally.darkest_mantissa),
         (tally.brightest_exponent, tally.brightest_mantissa),
@@ -122,6 +132,22 @@ fn pages() {
     assert_eq!(levels(&strip(&red, 180).unwrap()), [145, 0, 0]);
     assert_eq!(levels(&strip(&red, 1000).unwrap()), [255, 0, 0]);
     println!("examples of pages: 6");
+}
+
+/// Pages of the same greys one below another, each a band: average and levels are those of the whole page, 4095 and 39 beside a dark band.
+#[test]
+fn bands() {
+    let of_bands = |halves: &[u16]| -> Vec<u32> { halves.iter().flat_map(|half| greys(&[*half])).collect() };
+    let (two, dark) = (of_bands(&[0x3C00, 0x3800]), of_bands(&[0x7BFF, 0]));
+    let tally = Library.tally_of_bands(&two);
+    assert_eq!((tally.lit, tally.average, tally.exponent, tally.mantissa), (2, -129, 128, 180));
+    assert_eq!(both(tally), [(127, 255), (128, 255)]);
+    assert_eq!(levels_of_bands(&two), [52, 52, 52, 29, 29, 29]);
+    assert_eq!(Library.tally_of_bands(&of_bands(&[0x3C00, 0x3C00, 0x3800])).average, -87);
+    let tally = Library.tally_of_bands(&dark);
+    assert_eq!((tally.lit, tally.average, both(tally)), (1, 4095, [(144, 255); 2]));
+    assert_eq!(levels_of_bands(&dark), [39, 39, 39, 0, 0, 0]);
+    println!("examples of bands: 3");
 }
 
 /// The least luminance is that of blue (72,128) alone: 6/100 · 128.5 · 2^-64 is 246.72 · 2^-69. The greatest is that of a grey (184,255).

@@ -31,14 +31,7 @@ fn pairs<T: Copy>(list: &[T]) -> Vec<(T, T)> {
 /// The tally of a page as one row and as one column.
 #[track_caller]
 fn tallied(compare: &mut Compare, seed: u64, pixels: &[[u16; 3]]) {
-    let row = Page::row(180, pixels);
-    let (width, height) = (row.height, row.width);
-    let column = Page {
-        width,
-        height,
-        ..row.clone()
-    };
-    for page in [row, column] {
+    for page in [Page::row(180, pixels), Page::column(180, pixels)] {
         assert_eq!(same(seed, compare.tally(&page.strip())).number, 0);
     }
 }

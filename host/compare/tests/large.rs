@@ -1,12 +1,12 @@
 //! One page of 16,777,216 pixels: converted, unpacked, tallied, mapped and read at its end on both sides, and the second half of demand 3
-//! on all of it. Pages of 1,048,576 pixels from the other sources.
+//! on all of it; tallied and mapped in bands too. Pages of 1,048,576 pixels from the other sources.
 
-use compare::compare::{raw_step, raw_tally};
+use compare::compare::{raw_header, raw_step, raw_tally};
 use compare::lent::Lent;
 use compare::pages::{self, Look, Page};
 use compare::rounds::converted;
-use compare::{same, values, Calls, Compare, Kind, Library, Random};
-use dofnihet::raw::{Outcome, Step, Tally};
+use compare::{bands, same, values, Calls, Compare, Kind, Library, Random};
+use dofnihet::raw::{Header, Outcome, Step, Tally};
 use dofnihet::Source;
 use second::{LevelDistances, Rules, SecondStep};
 use std::thread;
@@ -37,25 +37,36 @@ fn large() -> Page {
     }
 }
 
+/// The page in bands of 1 to 63 rows and the rest.
+fn in_bands(page: &Page) -> Vec<u32> {
+    let heights: Vec<u64> = (1..=63).chain([HEIGHT - 2016]).collect();
+    bands::row(page, &heights)
+}
+
 /// What the library left in lent memory, longer than needed by five elements, and how far its levels lie from the exact values.
 struct ByLibrary {
-    outcomes: [Outcome; 3],
+    outcomes: [Outcome; 4],
     strip: Lent<u32>,
     channels: Lent<u16>,
     levels: Lent<u8>,
+    levels_of_bands: Lent<u8>,
     steps: [Step; 2],
     tally: Tally,
+    of_bands: (Header, Tally),
     distances: LevelDistances,
 }
 
-fn by_library(step: &SecondStep, page: &Page, strip: &[u32]) -> ByLibrary {
+fn by_library(step: &SecondStep, page: &Page, strip: &[u32], row: &[u32]) -> ByLibrary {
     let count = page.channels.len();
-    let (mut made, mut channels, mut levels) = (Lent::new(count + 8, 1), Lent::new(count + 5, 2), Lent::new(count + 5, 3));
+    let (mut made, mut channels) = (Lent::new(count + 8, 1), Lent::new(count + 5, 2));
+    let (mut levels, mut levels_of_bands) = (Lent::new(count + 5, 3), Lent::new(count + 5, 4));
     let outcomes = [
         Library.convert(Source::Stored(&page.channels), page.header(), made.output()),
         Library.unpack(strip, channels.output()),
         Library.map(strip, levels.output()),
+        Library.map_bands(row, levels_of_bands.output()),
     ];
+    let of_bands = (Library.header_of_bands(row), Library.tally_of_bands(row));
     let steps = STEPS.map(|n| Library.step(strip, n));
     let tally = Library.tally(strip);
     let average = second::Average {
@@ -69,8 +80,10 @@ fn by_library(step: &SecondStep, page: &Page, strip: &[u32]) -> ByLibrary {
         strip: made,
         channels,
         levels,
+        levels_of_bands,
         steps,
         tally,
+        of_bands,
         distances,
     }
 }
@@ -104,30 +117,39 @@ fn by_second(step: &SecondStep, page: &Page) -> BySecond {
     }
 }
 
-/// Both sides at once.
-fn by_both(step: &SecondStep, page: &Page, strip: &[u32]) -> (ByLibrary, BySecond) {
+/// What the second step tells of the bands; their levels must be those of its tall page.
+fn of_bands_by_second(step: &SecondStep, row: &[u32]) -> (Header, Tally) {
+    (raw_header(&step.header_of_bands(row)), raw_tally(&step.tally_of_bands(row)))
+}
+
+/// Both sides at once; the second step's tall page takes longest.
+fn by_both(step: &SecondStep, page: &Page, strip: &[u32], row: &[u32]) -> (ByLibrary, BySecond, (Header, Tally)) {
     thread::scope(|scope| {
-        let library = scope.spawn(|| by_library(step, page, strip));
+        let library = scope.spawn(|| (by_library(step, page, strip, row), of_bands_by_second(step, row)));
         let second = by_second(step, page);
-        (library.join().unwrap(), second)
+        let (library, of_bands) = library.join().unwrap();
+        (library, second, of_bands)
     })
 }
 
 #[test]
 fn a_page_of_all_pixels() {
     let (page, step) = (large(), SecondStep::new(Rules::BASE));
-    let (strip, kept) = (page.strip(), page.clone());
-    let (library, second) = by_both(&step, &page, &strip);
-    assert_eq!(library.outcomes, [ACCEPTED; 3]);
+    let (strip, row, kept) = (page.strip(), in_bands(&page), page.clone());
+    let (library, second, of_bands) = by_both(&step, &page, &strip, &row);
+    assert_eq!(library.outcomes, [ACCEPTED; 4]);
     assert!(second.strip == strip, "the second step converted it otherwise");
     assert_eq!(second.levels.len(), page.channels.len());
     library.strip.holds(&second.strip).unwrap();
     library.channels.holds(&page.channels).unwrap();
     library.levels.holds(&second.levels).unwrap();
+    library.levels_of_bands.holds(&second.levels).unwrap();
     assert_eq!(library.steps, second.steps);
     assert_eq!(library.tally, second.tally);
+    assert_eq!(library.of_bands, of_bands);
+    assert_eq!(library.of_bands, (Library.header(&strip), library.tally));
     assert!(
-        page.channels == kept.channels && page.strip() == strip,
+        page.channels == kept.channels && page.strip() == strip && in_bands(&page) == row,
         "memory to be read was changed"
     );
     let LevelDistances {

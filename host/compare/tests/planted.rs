@@ -1,23 +1,11 @@
 //! Each comparison can fail: differences are planted in the library's answers, and every one must be noticed.
 
 use compare::pages::Page;
-use compare::{program, Calls, Compare, Elements, Library};
+use compare::{planted, program, Calls, Compare, Elements, Library};
 use dofnihet::raw::{Header as RawHeader, Outcome, Row, Step, Tally};
 use dofnihet::{Header, Source};
 
-/// The library with one thing wrong, and the list of these things.
-macro_rules! planted {
-    ($($planted:ident)*) => {
-        #[derive(Clone, Copy, Debug, PartialEq, Eq)]
-        enum Planted {
-            Nothing,
-            $($planted),*
-        }
-
-        const PLANTED: &[Planted] = &[$($planted),*];
-    };
-}
-
+// The library with one thing wrong.
 planted! {
     Number Place PlaceOfAccepted
     ConvertFirst ConvertLast ConvertBehind ConvertRefused

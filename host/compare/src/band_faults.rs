@@ -1,0 +1,173 @@
+//! Faults of a row of three bands and of the output, one or several at once, and which of them the request puts first.
+
+use crate::bands;
+use crate::compare::{Told, ACCEPTED};
+use crate::strip_faults::{self, answer, order};
+
+#[derive(Clone, Copy, Debug, PartialEq, Eq)]
+pub enum Fault {
+    /// A fault of a strip, in this band.
+    In(usize, strip_faults::Fault),
+    /// A width, 1 or 4, that this band has alone; its pixels stay as many.
+    Width(usize, u32),
+    /// A key that this band has alone.
+    Key(usize, u32),
+    /// A black band lies before the three, so high that this one is the first to pass the greatest height.
+    Above(usize),
+    /// The row ends behind so many words of this band.
+    Cut(usize, usize),
+    /// So many bytes fewer than needed; all of them where more are taken than there are.
+    Room(usize),
+}
+
+const BANDS: usize = 3;
+/// Words of one of the three, a 2 x 2 page.
+const WORDS: usize = 15;
+
+/// The height of the black band before the three: with this one they pass 8,192 by a row.
+fn height_above(band: usize) -> u64 {
+    8193 - 2 * (band as u64 + 1)
+}
+
+/// The three bands, what lies before them, and an output that is exact but for a fault.
+#[derive(Clone, Debug)]
+pub struct Case {
+    above: Option<usize>,
+    bands: [strip_faults::Case; BANDS],
+    cut: Option<(usize, usize)>,
+    fewer: usize,
+}
+
+impl Case {
+    pub fn new(faults: &[Fault]) -> Case {
+        let mut case = Case {
+            above: None,
+            bands: [0; BANDS].map(|_| strip_faults::Case::sound()),
+            cut: None,
+            fewer: 0,
+        };
+        for fault in faults {
+            case.put(*fault);
+        }
+        case
+    }
+
+    fn put(&mut self, fault: Fault) {
+        match fault {
+            Fault::In(band, fault) => self.bands[band].put(fault),
+            Fault::Width(band, width) => self.bands[band].put(strip_faults::Fault::Size(width, 4 / width)),
+            Fault::Key(band, key) => self.bands[band].put(strip_faults::Fault::Key(key)),
+            Fault::Above(band) => self.above = Some(band),
+            Fault::Cut(band, words) => self.cut = Some((band, words)),
+            Fault::Room(fewer) => self.fewer = fewer,
+        }
+    }
+
+    /// The bands as they lie in the row.
+    pub fn row(&self) -> Vec<u32> {
+        let mut row = self.above.map_or(Vec::new(), |band| bands::black(2, &[height_above(band)]));
+        let end = self.cut.map_or(BANDS * WORDS, |(band, words)| band * WORDS + words);
+        let three = self.bands.iter().flat_map(|band| &band.strip);
+        row.extend(three.take(end));
+        row
+    }
+
+    pub fn room(&self) -> usize {
+        let above = self.above.map_or(0, |band| 2 * height_above(band) as usize);
+        (3 * above + 36).saturating_sub(self.fewer)
+    }
+}
+
+/// Every fault on its own.
+pub fn faults() -> Vec<Fault> {
+    use strip_faults::Fault::{Length, Room, Row, Short};
+    let of_strip: Vec<strip_faults::Fault> = strip_faults::faults()
+        .into_iter()
+        .filter(|fault| !matches!(fault, Row(_) | Room(_) | Length(_) | Short(_)))
+        .collect();
+    let mut list = vec![Fault::Cut(0, 0)];
+    for band in 0..BANDS {
+        list.extend(of_strip.iter().map(|fault| Fault::In(band, *fault)));
+        list.extend([1, 4].map(|width| Fault::Width(band, width)));
+        list.extend([1, 181, 1000].map(|key| Fault::Key(band, key)));
+        list.push(Fault::Above(band));
+        list.extend([1, 2, 3, 14].map(|words| Fault::Cut(band, words)));
+    }
+    list.extend([1, 35, 36].map(Fault::Room));
+    list
+}
+
+/// Whether both faults can be there at once: not two of a kind in one place, and no band before an empty row.
+pub fn together(one: Fault, other: Fault) -> bool {
+    use strip_faults::Fault::{Key, Size};
+    match (one, other) {
+        (Fault::In(band, fault), Fault::In(other, another)) => band != other || strip_faults::together(fault, another),
+        (Fault::Width(band, _), Fault::Width(other, _) | Fault::In(other, Size(..))) => band != other,
+        (Fault::Key(band, _), Fault::Key(other, _) | Fault::In(other, Key(_))) => band != other,
+        (Fault::In(..), Fault::Width(..) | Fault::Key(..)) => together(other, one),
+        (Fault::Above(_), Fault::Above(_) | Fault::Cut(0, 0)) | (Fault::Cut(0, 0), Fault::Above(_)) => false,
+        (Fault::Cut(..), Fault::Cut(..)) | (Fault::Room(_), Fault::Room(_)) => false,
+        _ => true,
+    }
+}
+
+/// Each fault alone, and each two that can be there at once.
+pub fn alone_and_in_pairs(list: &[Fault]) -> Vec<Vec<Fault>> {
+    let pairs = (0..list.len()).flat_map(|j| (0..j).map(move |i| [list[i], list[j]]));
+    let pairs = pairs.filter(|[one, other]| together(*one, *other)).map(|pair| pair.to_vec());
+    list.iter().map(|fault| vec![*fault]).chain(pairs).collect()
+}
+
+/// Where a fault is asked for: the band, whether behind the band's own checks, and where among those.
+type Stage = (usize, bool, usize);
+
+/// Where a fault is asked for, and what is told then; not of widths and keys, which must be held against the first band's.
+fn asked(fault: Fault, start: u64) -> Option<(Stage, Told)> {
+    match fault {
+        Fault::In(band, fault) => Some(((band, false, order(fault)), moved(answer(fault), start + (band * WORDS) as u64))),
+        Fault::Cut(band, words) => {
+            let fault = match words {
+                0 | 1 => strip_faults::Fault::Short(words),
+                _ => strip_faults::Fault::Length(words as i64 - WORDS as i64),
+            };
+            Some(((band, false, order(fault)), answer(fault)))
+        }
+        Fault::Above(band) => Some(((band, true, 0), (21, 0))),
+        Fault::Room(_) => Some(((BANDS, true, 0), (4, 0))),
+        Fault::Width(..) | Fault::Key(..) => None,
+    }
+}
+
+/// What a strip is told where it begins at this index of the row: 7 and 8 have a place.
+fn moved((number, place): Told, start: u64) -> Told {
+    match number {
+        7 | 8 => (number, place + start),
+        _ => (number, place),
+    }
+}
+
+/// The first band that is unlike the first of the row.
+fn unlike(faults: &[Fault], above: bool) -> Option<(Stage, Told)> {
+    let mut kinds = vec![(2, 180); BANDS + above as usize];
+    for fault in faults {
+        match *fault {
+            Fault::Width(band, width) => kinds[band + above as usize].0 = width,
+            Fault::Key(band, key) => kinds[band + above as usize].1 = key,
+            _ => (),
+        }
+    }
+    let band = kinds.iter().position(|kind| *kind != kinds[0])?;
+    Some(((band - above as usize, true, 0), (21, 0)))
+}
+
+/// What is told where these faults, and no others, are there.
+pub fn first(faults: &[Fault], output: bool) -> Told {
+    let above = faults.iter().find_map(|fault| match fault {
+        Fault::Above(band) => Some(*band),
+        _ => None,
+    });
+    let start = above.map_or(0, |band| dofnihet::strip_length(2 * height_above(band) as usize)) as u64;
+    let seen = faults.iter().filter(|fault| output || !matches!(fault, Fault::Room(_)));
+    let all = seen.filter_map(|fault| asked(*fault, start)).chain(unlike(faults, above.is_some()));
+    all.min_by_key(|(stage, _)| *stage).map_or(ACCEPTED, |(_, told)| told)
+}
