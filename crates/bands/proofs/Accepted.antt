@@ -11,7 +11,7 @@ use Rattle.number.proofs.Laws.{Every}
 use Rattle.refusal.specs.declared.Verdict.the-variants.{Accepted}
 use Rattle.refusal.proofs.Laws.{require-passed, and-passed}
 use Rattle.word.specs.declared.header.Header.{Header}
-use Rattle.word.specs.Words.{sizeFits}
+use Rattle.word.specs.Words.{pixels, sizeFits}
 use Rattle.word.proofs.Limits.{both-true, size-limits}
 use Rattle.strip.specs.Checks.{headerFields}
 use Rattle.strip.specs.Reading.{stripPixels}
@@ -26,7 +26,7 @@ use Rattle.page.specs.Tallying.{stripLuminances}
 use Rattle.page.specs.Mapping.{toneOf, pageLevels}
 use Rattle.series.specs.Series.{Standing, seriesOf}
 use Rattle.series.proofs.Laws.{standing-accepted, series-next}
-use Rattle.bands.specs.Checks.{bandHeader, joins, checkBand, checkEach, checkBands, joinedRows}
+use Rattle.bands.specs.Checks.{bandHeader, joins, checkBand, checkEach, checkBands, joinedRows, tallHeader}
 use Rattle.bands.specs.Joining.{joinTallies, bandLevels}
 use Rattle.bands.specs.loops.Walks.{rowPixels}
 
@@ -97,7 +97,7 @@ bands-accepted r e =
 
 -- ---- their pixels
 
-pub count-row : (first : Header) (bs : List Standing) → Every (IsBand first) bs → length (rowPixels bs) ≡ first .width * joinedRows bs
+count-row : (first : Header) (bs : List Standing) → Every (IsBand first) bs → length (rowPixels bs) ≡ first .width * joinedRows bs
 unfolding flatMap joinedRows
 count-row first [] valid = omega arith
 count-row first (b ∷ bs) valid =
@@ -105,8 +105,11 @@ count-row first (b ∷ bs) valid =
     let rest = count-row first bs (valid .1) in
     length-append (stripPixels (b .strip)) (rowPixels bs) ∙ rw (n, rest, valid .0 .width) (omega arith)
 
+pub count-all : (r : List ℕ) → AreBands r → length (rowPixels (seriesOf r)) ≡ pixels (tallHeader r)
+count-all r ok = count-row (headerFields r) (seriesOf r) (ok .each)
+
 pub few-pixels : (r : List ℕ) → AreBands r → length (rowPixels (seriesOf r)) ≤ 16777216
-few-pixels r ok = let most = size-limits _ _ (ok .fits) .count in rw (count-row (headerFields r) (seriesOf r) (ok .each)) most
+few-pixels r ok = rw (count-all r ok) (size-limits _ _ (ok .fits) .count)
 
 -- the joined tally is that of all pixels
 pub tallies-of : (bs : List Standing) → joinTallies bs ≡ tallyOf (luminancesOf (rowPixels bs))

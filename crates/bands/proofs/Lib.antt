@@ -6,3 +6,4 @@ pub mod Tall
 pub mod Cuts
 pub mod Bounds
 pub mod Averages
+pub mod Levels

@@ -62,3 +62,8 @@ module _
       let part : drop (3 * length ps) old ≡ bytes qs ++ (bytes rs ++ rest) =
       ap (drop (3 * length ps)) shape ∙ drop-at (bytes ps) (bytes qs ++ (bytes rs ++ rest)) (3 * length ps) (three ps) in
       ap (onto (bytes qs)) part ∙ ap (λ xs. bytes qs ++ xs) (drop-append-seam (bytes qs) (bytes rs ++ rest)) ∙ sym part
+
+  pub held-room : (ps : List Pixel) (old : List ℕ) → onto (bytes ps) old ≡ old → 3 * length ps ≤ length old
+  held-room ps old e =
+      let n = length-append (bytes ps) (drop (length (bytes ps)) old) in
+      omega (arith, n, ap length e, three ps)

@@ -1,16 +1,13 @@
 -- Walks over accepted bands: what the bands that were passed come to. Assumes nothing.
-use Prim.Native.Nat.{ℕ, _+_, _-_, _*_, _^_, _≤_, _<_}
+use Prim.Native.Nat.{ℕ, _+_, _*_, _≤_, _<_}
 use mathlib.Core.Path.{_≡_, refl, sym, ap, subst, _∙_}
 use mathlib.Core.List.{List, [], _∷_, _++_, append-assoc, append-nil, flatMap}
 use native.Mathlib.Omega.{arith}
-use borrow.Rule.Slice.PartMut.{putMid}
-use lib.ListN.{length, take, drop, length-append, length-drop}
-use lib.Seq.{take-all, take-at, drop-at, drop-length, drop-drop, take-length}
+use lib.ListN.{length, length-append}
 use Rattle.number.specs.declared.channel.Pixel.{Pixel}
 use Rattle.number.proofs.Laws.{Every}
 use Rattle.refusal.specs.Output.{onto}
 use Rattle.word.specs.Pixels.{wordPixels}
-use Rattle.word.specs.Words.{pixels}
 use Rattle.strip.specs.Checks.{headerFields, bodyPart}
 use Rattle.strip.specs.Reading.{stripPixels}
 use Rattle.strip.proofs.Limits.{Whole, length-body}
@@ -30,11 +27,9 @@ use Rattle.page.proofs.Laws.{strip-body, strip-valid}
 use Rattle.series.specs.Series.{seriesOf, stripAt, standingAt}
 use Rattle.series.specs.loops.Walks.{seriesFrom}
 use Rattle.series.proofs.Laws.{series-next, series-over}
-use Rattle.bands.specs.Checks.{tallHeader}
 use Rattle.bands.specs.Joining.{joinTallies}
 use Rattle.bands.specs.loops.Walks.{rowPixels}
-use Rattle.bands.proofs.Accepted.{IsBand, AreBands, count-row, few-pixels, tallies-of}
-use Rattle.bands.proofs.Checking.{ahead}
+use Rattle.bands.proofs.Accepted.{IsBand, AreBands, few-pixels, tallies-of}
 
 -- ---- where a walk stands: `passed` are the pixels of the bands that were passed
 
@@ -92,19 +87,18 @@ module _ (r : List ℕ) (ok : AreBands r) where
                   ∙ rw (words-pixels, b) (sym (ap (λ ss. ps ++ rowPixels ss) (series-next r i h)) ∙ w .all);
             }
 
-        -- three words a pixel; all pixels so far have their bytes in an output for the whole page
+        -- three words a pixel; the bytes of all pixels so far are not more than the page's
         pub words-three : length words ≡ 3 * length (wordPixels words)
         words-three =
             let n = length-body band (whole .head) in
             let m = count-pixels band whole in
             rw (words-pixels, e) (omega arith)
 
-        pub words-room : 3 * length ps + 3 * length (wordPixels words) ≤ 3 * pixels (tallHeader r)
+        pub words-room : 3 * length ps + 3 * length (wordPixels words) ≤ 3 * length (rowPixels (seriesOf r))
         words-room =
             let all = ap length (walked-next .all) in
             let front = length-append (ps ++ wordPixels words) (rowPixels (seriesFrom r (i + length band))) in
             let long = length-append ps (wordPixels words) in
-            let total = count-row (headerFields r) (seriesOf r) (ok .each) in
             omega arith
 
 -- ---- their tallies joined
@@ -157,6 +151,7 @@ pub record Kept (r old : List ℕ) (output : List ℕ) (t : Tally) (i done : ℕ
   pub tally : t ≡ tallyOf (luminancesOf passed)
   pub at : done ≡ 3 * length passed
   pub content : output ≡ onto (indicesOf passed) old
+  pub long : length output ≡ length old
 
 -- mapped, with their levels there
 pub record Mapped (r : List ℕ) (tone : Tone) (old output : List ℕ) (i done : ℕ) : Type 0 where
@@ -164,6 +159,7 @@ pub record Mapped (r : List ℕ) (tone : Tone) (old output : List ℕ) (i done :
   pub walk : Walked r i passed
   pub at : done ≡ 3 * length passed
   pub content : output ≡ onto (levelsUnder tone passed) old
+  pub long : length output ≡ length old
 
 -- no pixel: no tally
 pub none-tallied : {t : Tally} → t ≡ tallyOf [] → t ≡ tallyOf (luminancesOf [])

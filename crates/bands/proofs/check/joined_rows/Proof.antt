@@ -3,7 +3,6 @@ use borrow.Author.Needs.{needs}
 use Prim.Native.Nat.{_-_}
 use native.Mathlib.Omega.{arith}
 use lib.ListN.{length}
-use denote.Ref.{now}
 use Rattle.bands.proofs.Checking.{ahead, Counting, counting-all, counting-next, counting-done, few-rows}
 use Rattle.bands.proofs.check.joined_rows.Statement.{statement}
 use Rattle.bands.proofs.check.joined_rows.Tie as tie

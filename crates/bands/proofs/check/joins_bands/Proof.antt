@@ -1,6 +1,5 @@
 -- `bands::check::joins_bands` meets its contract. Assumes nothing.
 use borrow.Author.Needs.{needs}
-use native.Mathlib.Omega.{arith}
 use borrow.Author.Tests.{eq-eqb, ne-eqb}
 use Rattle.bands.specs.Checks.{joins}
 use Rattle.bands.proofs.check.joins_bands.Statement.{statement}

@@ -1,11 +1,10 @@
 -- `bands::tally::join_tallies` meets its contract: at each turn the tally is that of the bands that were passed. Assumes nothing.
 use borrow.Author.Needs.{needs}
-use Prim.Native.Nat.{_-_, _≤_}
+use Prim.Native.Nat.{_-_}
 use mathlib.Core.List.{[]}
 use native.Mathlib.Omega.{arith}
 use lib.ListN.{length}
-use denote.Ref.{now}
-use Rattle.bands.proofs.Accepted.{AreBands, bands-accepted}
+use Rattle.bands.proofs.Accepted.{bands-accepted}
 use Rattle.bands.proofs.Checking.{ahead}
 use Rattle.bands.proofs.Walks.{walked-none, words-body, walked-next, both-tallies, tally-next, tally-all, Tallied, none-tallied}
 use Rattle.bands.proofs.tally.join_tallies.Statement.{statement}

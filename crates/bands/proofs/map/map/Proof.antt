@@ -1,0 +1,79 @@
+-- `bands::map::map` meets its contract: a refusal comes before the first store. Assumes nothing.
+use borrow.Author.Needs.{needs}
+use mathlib.Core.Path.{_≡_, sym, _∙_}
+use native.Mathlib.Omega.{arith}
+use lib.ListN.{length}
+use denote.Ref.{now}
+use Rattle.series.specs.Series.{seriesOf}
+use Rattle.bands.specs.Joining.{joinedAverage}
+use Rattle.bands.proofs.Averages.{joined-has-average, joined-average, joined-tone}
+use Rattle.bands.proofs.Levels.{Fits, map-limits, indices-left, black-left, levels-left, left-alone, filled}
+use Rattle.bands.proofs.map.map.Statement.{statement}
+use Rattle.bands.proofs.map.map.Tie as tie
+
+-- what holds once row and output are accepted
+limits : (c : tie.After-enum-told)
+    → let a = c .before .before .before .before .before .args in Fits (now (a .row)) (length (now (a .output)))
+limits c = map-limits _ _ (sym (c .before .before .check-map .ensures .0) ∙ c .enum-told .given .1)
+
+average : (c : tie.After-average-of)
+    → c .average-of .result
+    ≡ joinedAverage (seriesOf (now (c .before .before .before .before .before .before .before .before .before .before .before .args .row)))
+average c =
+    let k = c .before .before .before .before in
+    joined-average _ (limits (k .before .before) .bands) (k .keep-tallies .ensures .0) (c .average-of .ensures .0)
+
+clear-levels-requires : tie.Need-clear-levels-requires
+clear-levels-requires c κs =
+    let b = c .before in
+    let k = b .before .before .before .before .before .before .before in
+    omega (arith, b .level-bytes .ensures, limits (k .before .before) .fits)
+
+returns-2 : tie.Need-returns-2
+returns-2 c =
+    let l = c .before .before in
+    let b = l .before .before in
+    let n = b .before in
+    let a = n .before .before in
+    let k = a .before .before .before .before in
+    let e = k .before .before in
+    let ok = limits e in
+    filled _ _ _ (sym (sym (e .before .before .check-map .ensures .0) ∙ e .enum-told .given .1))
+    (black-left _ (ok .bands) _ (k .keep-tallies .ensures .1) (sym (average a) ∙ n .enum-told3 .given .1) (b .level-bytes .ensures) (l .clear-levels .ensures))
+
+map-each-requires : tie.Need-map-each-requires
+map-each-requires c κs =
+    let f = c .before in
+    let h = f .before in
+    let v = h .before .before in
+    let a = v .before .before in
+    let k = a .before .before .before .before in
+    let ok = limits (k .before .before) .bands in
+    rw (f .tone-of .ensures, h .header-fields .ensures)
+    (ok, joined-tone _ ok (sym (average a) ∙ v .average .given .1), indices-left _ ok _ (k .keep-tallies .ensures .1))
+
+returns-3 : tie.Need-returns-3
+returns-3 c =
+    let m = c .before .before in
+    let f = m .before .before in
+    let h = f .before in
+    let v = h .before .before in
+    let a = v .before .before in
+    let k = a .before .before .before .before in
+    let e = k .before .before in
+    let ok = limits e in
+    filled _ _ _ (sym (sym (e .before .before .check-map .ensures .0) ∙ e .enum-told .given .1))
+    (levels-left _ (ok .bands) _ (k .keep-tallies .ensures .1) (sym (average a) ∙ v .average .given .1)
+    (rw (f .tone-of .ensures, h .header-fields .ensures) at (m .map-each .ensures)))
+
+pub map-spec : {M : Type 1} → statement M
+map-spec =
+    tie.close
+    (tie.spec
+    (λ c κs. search needs) (λ c. search needs) (λ c. search needs)
+    (λ c. left-alone _ _ (c .before .before .check-map .ensures .0) (c .enum-told2 .given .1))
+    (λ c κs. let ok = limits (c .before) in (ok .bands, ok .fits))
+    (λ c κs. let k = c .before .before .before in joined-has-average _ (limits (k .before .before) .bands) (k .keep-tallies .ensures .0))
+    (λ c. search needs) (λ c. search needs)
+    (λ c κs. limits (c .before .before .before .before .before .before .before .before) .bands) clear-levels-requires (λ c. search needs)
+    returns-2 (λ c κs. search needs) (λ c κs. search needs) map-each-requires (λ c. search needs) returns-3)
