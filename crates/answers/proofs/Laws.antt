@@ -22,7 +22,7 @@ use Rattle.body.specs.Luminances.{luminancesOf, litCount}
 use Rattle.page.specs.declared.tally.TallyOrRefusal.{TallyOrRefusal}
 use Rattle.page.specs.declared.tally.TallyOrRefusal.the-variants.{Holds, Refuses}
 use Rattle.page.specs.Claims.{ExtremesOn, TallyPromise, MapPromise}
-use Rattle.page.specs.Tallying.{tallyTold, tallyStrip}
+use Rattle.page.specs.Tallying.{tallyTold}
 use Rattle.answers.specs.declared.tallies.TallyAnswer.{TallyAnswer}
 use Rattle.answers.specs.Answers.{tallyAnswer, Reports}
 use Rattle.answers.specs.Claims.{TallyBound, MapBound}
@@ -75,9 +75,8 @@ bounded s (Refuses r i) p =
       none = λ _. (refl, refl, refl, refl);
     }
 
-pub answered : (s : List ℕ) (a : TallyOrRefusal) (r : TallyAnswer) → r ≡ tallyAnswer a
-    → (a ≡ tallyStrip s) × ((tallyTold a ≡ tallyTold (tallyStrip s)) × TallyPromise s a)
-    → (r ≡ tallyAnswer (tallyStrip s)) × TallyBound s r
+pub answered : (s : List ℕ) (a : TallyOrRefusal) (r : TallyAnswer) {rule : TallyOrRefusal} → r ≡ tallyAnswer a
+    → (a ≡ rule) × ((tallyTold a ≡ tallyTold rule) × TallyPromise s a) → (r ≡ tallyAnswer rule) × TallyBound s r
 answered s a r q p = (q ∙ ap tallyAnswer (p .0), subst (TallyBound s) (sym q) (bounded s a (p .1 .1)))
 
 -- mapping's promise

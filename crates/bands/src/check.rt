@@ -2,9 +2,7 @@
 ghost use mathlib.Core.Path.{_≡_};
 ghost use Prim.Native.Nat.{_*_, _≤_, _<_};
 ghost use lib.ListN.{length};
-ghost use Rattle.refusal.specs.declared.Refusal.{Refusal};
 ghost use Rattle.refusal.specs.declared.Verdict.{Verdict};
-ghost use Rattle.refusal.specs.Verdicts.{require, reportOf};
 ghost use Rattle.word.specs.Words.{pixels};
 ghost use Rattle.strip.specs.Reading.{headerTold};
 ghost use Rattle.series.specs.Series.{seriesOf, standingAt};
@@ -49,9 +47,8 @@ fn check_band(row: &[u32], start: usize, first: Header, rows: u64) -> Verdict
 }
 
 // A row of bands.
-pub fn check(row: &[u32]) -> Verdict
-    ensures verdict { λ r. ⌜ r ≡ checkBands (now (row .entry)) ⌝ }
-    ensures outcome { λ r. ⌜ reportOf r ≡ reportOf (checkBands (now (row .entry))) ⌝ }
+pub(crate) fn check(row: &[u32]) -> Verdict
+    ensures { λ r. ⌜ r ≡ checkBands (now (row .entry)) ⌝ }
 {
     if row.len() < 1 {
         return Verdict::Refused(Refusal::WrongLength, 0);
@@ -115,9 +112,8 @@ pub fn header(row: &[u32]) -> HeaderOrRefusal
 }
 
 // A row of bands whose levels go into an output of so many bytes.
-pub fn check_map(row: &[u32], room: usize) -> Verdict
-    ensures verdict { λ r. ⌜ r ≡ checkMapBands (now (row .entry)) room ⌝ }
-    ensures outcome { λ r. ⌜ reportOf r ≡ reportOf (checkMapBands (now (row .entry)) room) ⌝ }
+pub(crate) fn check_map(row: &[u32], room: usize) -> Verdict
+    ensures { λ r. ⌜ r ≡ checkMapBands (now (row .entry)) room ⌝ }
 {
     let verdict = check(row);
     let Verdict::Accepted = verdict else {

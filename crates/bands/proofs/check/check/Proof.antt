@@ -28,9 +28,8 @@ returns-2 c =
     let b = c .before .before in
     let t = b .before in
     let inv = t .before .loop .inv in
-    also reportOf
-    (checked-each _ (inv .1)
-    (checking-refused _ _ (inv .2) (t .loop-test .taken) (b .check-band .ensures) (c .enum-told2 .given .1) ∙ rw (inv .0)))
+    checked-each _ (inv .1)
+    (checking-refused _ _ (inv .2) (t .loop-test .taken) (b .check-band .ensures) (c .enum-told2 .given .1) ∙ rw (inv .0))
 
 loop-again : tie.Need-loop-again Inv-loop μ-loop
 loop-again c =
@@ -55,13 +54,13 @@ loop-less c =
 returns-3 : tie.Need-returns-3 Inv-loop μ-loop
 returns-3 c =
     let inv = c .before .loop .inv in
-    also reportOf (checked-each _ (inv .1) (checking-done _ _ (inv .2) (c .loop-test .left) ∙ rw (inv .0)))
+    checked-each _ (inv .1) (checking-done _ _ (inv .2) (c .loop-test .left) ∙ rw (inv .0))
 
 pub check-spec : {M : Type 1} → statement M
 check-spec =
     tie.close
     (tie.spec
-    Inv-loop μ-loop (λ c. also reportOf (checked-empty _ (c .if1 .taken))) (λ c κs. search needs) loop-holds check-band-requires
+    Inv-loop μ-loop (λ c. checked-empty _ (c .if1 .taken)) (λ c κs. search needs) loop-holds check-band-requires
     (λ c. search needs) (λ c. search needs) returns-2 (λ c κs. search needs) (λ c κs. search needs)
     (λ c. omega (arith, loop-again c .2 .few))
     (λ c. omega (arith, loop-again c .2 .within, c .before .before .before .before .before .before .before .before .before .before .before .good .0))

@@ -11,20 +11,20 @@ use Rattle.bands.proofs.check.check_map.Statement.{statement}
 use Rattle.bands.proofs.check.check_map.Tie as tie
 
 ok : (c : tie.After-enum-told) → checkBands (now (c .before .before .before .before .args .row)) ≡ Accepted
-ok c = sym (c .before .before .check .ensures .0) ∙ c .enum-told .given .1
+ok c = sym (c .before .before .check .ensures) ∙ c .enum-told .given .1
 
 returns : tie.Need-returns
-returns c = also reportOf (map-refused _ _ (c .before .before .check .ensures .0) (c .enum-told2 .given .1))
+returns c = map-refused _ _ (c .before .before .check .ensures) (c .enum-told2 .given .1)
 
 returns-2 : tie.Need-returns-2
 returns-2 c =
     let b = c .before in
-    also reportOf (map-small _ _ (ok (b .before)) (rw (b .level-bytes .ensures) at (c .if1 .taken)))
+    map-small _ _ (ok (b .before)) (rw (b .level-bytes .ensures) at (c .if1 .taken))
 
 returns-3 : tie.Need-returns-3
 returns-3 c =
     let b = c .before in
-    also reportOf (map-fits _ _ (ok (b .before)) (rw (b .level-bytes .ensures) at (c .if1 .left)))
+    map-fits _ _ (ok (b .before)) (rw (b .level-bytes .ensures) at (c .if1 .left))
 
 pub check-map-spec : {M : Type 1} → statement M
 check-map-spec =

@@ -11,12 +11,12 @@ returns c =
     let h = c .before in
     let v = h .before in
     also headerTold
-    (simp (c .joined-rows .ensures, h .header-fields .ensures, sym (v .before .before .check .ensures .0), v .enum-told .given .1))
+    (simp (c .joined-rows .ensures, h .header-fields .ensures, sym (v .before .before .check .ensures), v .enum-told .given .1))
 
 pub header-spec : {M : Type 1} → statement M
 header-spec =
     tie.close
     (tie.spec
     (λ c κs. search needs) (λ c. search needs) (λ c κs. search needs)
-    (λ c κs. let v = c .before in sym (v .before .before .check .ensures .0) ∙ v .enum-told .given .1) (λ c. search needs) returns
-    (λ c. also headerTold (simp (sym (c .before .before .before .check .ensures .0), c .before .verdict .given .1))))
+    (λ c κs. let v = c .before in sym (v .before .before .check .ensures) ∙ v .enum-told .given .1) (λ c. search needs) returns
+    (λ c. also headerTold (simp (sym (c .before .before .before .check .ensures), c .before .verdict .given .1))))

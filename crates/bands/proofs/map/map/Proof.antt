@@ -14,7 +14,7 @@ use Rattle.bands.proofs.map.map.Tie as tie
 -- what holds once row and output are accepted
 limits : (c : tie.After-enum-told)
     → let a = c .before .before .before .before .before .args in Fits (now (a .row)) (length (now (a .output)))
-limits c = map-limits _ _ (sym (c .before .before .check-map .ensures .0) ∙ c .enum-told .given .1)
+limits c = map-limits _ _ (sym (c .before .before .check-map .ensures) ∙ c .enum-told .given .1)
 
 average : (c : tie.After-average-of)
     → c .average-of .result
@@ -38,7 +38,7 @@ returns-2 c =
     let k = a .before .before .before .before in
     let e = k .before .before in
     let ok = limits e in
-    filled _ _ _ (sym (sym (e .before .before .check-map .ensures .0) ∙ e .enum-told .given .1))
+    filled _ _ _ (sym (sym (e .before .before .check-map .ensures) ∙ e .enum-told .given .1))
     (black-left _ (ok .bands) _ (k .keep-tallies .ensures .1) (sym (average a) ∙ n .enum-told3 .given .1) (b .level-bytes .ensures) (l .clear-levels .ensures))
 
 map-each-requires : tie.Need-map-each-requires
@@ -62,7 +62,7 @@ returns-3 c =
     let k = a .before .before .before .before in
     let e = k .before .before in
     let ok = limits e in
-    filled _ _ _ (sym (sym (e .before .before .check-map .ensures .0) ∙ e .enum-told .given .1))
+    filled _ _ _ (sym (sym (e .before .before .check-map .ensures) ∙ e .enum-told .given .1))
     (levels-left _ (ok .bands) _ (k .keep-tallies .ensures .1) (sym (average a) ∙ v .average .given .1)
     (rw (f .tone-of .ensures, h .header-fields .ensures) at (m .map-each .ensures)))
 
@@ -71,7 +71,7 @@ map-spec =
     tie.close
     (tie.spec
     (λ c κs. search needs) (λ c. search needs) (λ c. search needs)
-    (λ c. left-alone _ _ (c .before .before .check-map .ensures .0) (c .enum-told2 .given .1))
+    (λ c. left-alone _ _ (c .before .before .check-map .ensures) (c .enum-told2 .given .1))
     (λ c κs. let ok = limits (c .before) in (ok .bands, ok .fits))
     (λ c κs. let k = c .before .before .before in joined-has-average _ (limits (k .before .before) .bands) (k .keep-tallies .ensures .0))
     (λ c. search needs) (λ c. search needs)

@@ -9,7 +9,7 @@ use Rattle.bands.proofs.tally.tally.Statement.{statement}
 use Rattle.bands.proofs.tally.tally.Tie as tie
 
 ok : (c : tie.After-enum-told) → checkBands (now (c .before .before .before .before .args .row)) ≡ Accepted
-ok c = sym (c .before .before .check .ensures .0) ∙ c .enum-told .given .1
+ok c = sym (c .before .before .check .ensures) ∙ c .enum-told .given .1
 
 returns : tie.Need-returns
 returns c =
@@ -19,7 +19,7 @@ returns c =
 returns-2 : tie.Need-returns-2
 returns-2 c =
     let v = c .before in
-    bounded _ (refused _ (sym (v .before .before .check .ensures .0) ∙ v .verdict .given .1))
+    bounded _ (refused _ (sym (v .before .before .check .ensures) ∙ v .verdict .given .1))
 
 pub tally-spec : {M : Type 1} → statement M
 tally-spec =
