@@ -26,9 +26,9 @@ use Rattle.page.specs.Tallying.{stripLuminances}
 use Rattle.page.specs.Mapping.{toneOf, pageLevels}
 use Rattle.series.specs.Series.{Standing, seriesOf}
 use Rattle.series.proofs.Laws.{standing-accepted, series-next}
-use Rattle.bands.specs.Checks.{bandHeader, joins, checkBand, checkEach, checkBands, joinedRows, tallHeader}
+use Rattle.bands.specs.Checks.{bandHeader, joins, checkBand, checkEach, checkBands, joinedHeight, tallHeader}
 use Rattle.bands.specs.Joining.{joinTallies, bandLevels}
-use Rattle.bands.specs.loops.Walks.{rowPixels}
+use Rattle.bands.specs.loops.Walks.{joinedPixels}
 
 -- ---- one band
 
@@ -67,21 +67,21 @@ each-accepted first rows (b ∷ bs) e =
 
 -- one band or more have a joined size within the limits
 joined-fits : (first : Header) (rows : ℕ) (b : Standing) (bs : List Standing) → checkEach first rows (b ∷ bs) ≡ Accepted
-    → sizeFits (first .width) (rows + joinedRows (b ∷ bs)) ≡ true
-unfolding checkEach joinedRows
+    → sizeFits (first .width) (rows + joinedHeight (b ∷ bs)) ≡ true
+unfolding checkEach joinedHeight
 joined-fits first rows b [] e =
     let same : rows + (bandHeader b .height + 0) ≡ rows + bandHeader b .height = omega arith in
     rw same (band-accepted first rows b (and-passed _ _ e .0) .fits)
 joined-fits first rows b (c ∷ bs) e =
     let h = bandHeader b .height in
-    let same : rows + (h + joinedRows (c ∷ bs)) ≡ rows + h + joinedRows (c ∷ bs) = omega arith in
+    let same : rows + (h + joinedHeight (c ∷ bs)) ≡ rows + h + joinedHeight (c ∷ bs) = omega arith in
     rw same (joined-fits first (rows + h) c bs (and-passed _ _ e .1))
 
 -- an accepted row
 pub record AreBands (r : List ℕ) : Type 0 where
   pub some : 0 < length r
   pub each : Every (IsBand (headerFields r)) (seriesOf r)
-  pub fits : sizeFits (headerFields r .width) (joinedRows (seriesOf r)) ≡ true
+  pub fits : sizeFits (headerFields r .width) (joinedHeight (seriesOf r)) ≡ true
 
 pub bands-accepted : (r : List ℕ) → checkBands r ≡ Accepted → AreBands r
 unfolding checkBands
@@ -97,26 +97,26 @@ bands-accepted r e =
 
 -- ---- their pixels
 
-count-row : (first : Header) (bs : List Standing) → Every (IsBand first) bs → length (rowPixels bs) ≡ first .width * joinedRows bs
-unfolding flatMap joinedRows
+count-row : (first : Header) (bs : List Standing) → Every (IsBand first) bs → length (joinedPixels bs) ≡ first .width * joinedHeight bs
+unfolding flatMap joinedHeight
 count-row first [] valid = omega arith
 count-row first (b ∷ bs) valid =
     let n = count-pixels (b .strip) (valid .0 .whole) in
     let rest = count-row first bs (valid .1) in
-    length-append (stripPixels (b .strip)) (rowPixels bs) ∙ rw (n, rest, valid .0 .width) (omega arith)
+    length-append (stripPixels (b .strip)) (joinedPixels bs) ∙ rw (n, rest, valid .0 .width) (omega arith)
 
-pub count-all : (r : List ℕ) → AreBands r → length (rowPixels (seriesOf r)) ≡ pixels (tallHeader r)
+pub count-all : (r : List ℕ) → AreBands r → length (joinedPixels (seriesOf r)) ≡ pixels (tallHeader r)
 count-all r ok = count-row (headerFields r) (seriesOf r) (ok .each)
 
-pub few-pixels : (r : List ℕ) → AreBands r → length (rowPixels (seriesOf r)) ≤ 16777216
+pub few-pixels : (r : List ℕ) → AreBands r → length (joinedPixels (seriesOf r)) ≤ 16777216
 few-pixels r ok = rw (count-all r ok) (size-limits _ _ (ok .fits) .count)
 
 -- the joined tally is that of all pixels
-pub tallies-of : (bs : List Standing) → joinTallies bs ≡ tallyOf (luminancesOf (rowPixels bs))
+pub tallies-of : (bs : List Standing) → joinTallies bs ≡ tallyOf (luminancesOf (joinedPixels bs))
 unfolding joinTallies flatMap luminancesOf
 tallies-of [] = refl
 tallies-of (b ∷ bs) =
-    ap (join (tallyOf (stripLuminances (b .strip)))) (tallies-of bs) ∙ sym (tally-join (stripPixels (b .strip)) (rowPixels bs))
+    ap (join (tallyOf (stripLuminances (b .strip)))) (tallies-of bs) ∙ sym (tally-join (stripPixels (b .strip)) (joinedPixels bs))
 
 -- zeros for some pixels and for others
 zeros : (m n : ℕ) → let none = replicate {A = ℕ} in none (3 * m) 0 ++ none (3 * n) 0 ≡ none (3 * (m + n)) 0
@@ -124,13 +124,13 @@ zeros m n = let e : 3 * (m + n) ≡ 3 * m + 3 * n = omega arith in rw e (replica
 
 -- bands of one key are mapped as their pixels together are
 pub levels-of : (average : Average) (first : Header) (bs : List Standing) → Every (IsBand first) bs
-    → flatMap (bandLevels average) bs ≡ pageLevels average first (rowPixels bs)
+    → flatMap (bandLevels average) bs ≡ pageLevels average first (joinedPixels bs)
 unfolding flatMap
 levels-of Absent first [] valid = refl
 levels-of (Present A a) first [] valid = refl
 levels-of Absent first (b ∷ bs) valid =
-    rw (levels-of Absent first bs (valid .1), length-append (stripPixels (b .strip)) (rowPixels bs))
-    (zeros (length (stripPixels (b .strip))) (length (rowPixels bs)))
+    rw (levels-of Absent first bs (valid .1), length-append (stripPixels (b .strip)) (joinedPixels bs))
+    (zeros (length (stripPixels (b .strip))) (length (joinedPixels bs)))
 levels-of (Present A a) first (b ∷ bs) valid =
     rw (valid .0 .key, levels-of (Present A a) first bs (valid .1))
-    (sym (levels-append (toneOf first a) (stripPixels (b .strip)) (rowPixels bs)))
+    (sym (levels-append (toneOf first a) (stripPixels (b .strip)) (joinedPixels bs)))

@@ -1,6 +1,6 @@
 -- Demand 3 of a page in bands, and the promises of its two calls. Assumes nothing.
 use Prim.Native.Nat.{ℕ}
-use mathlib.Core.Path.{_≡_, refl, sym}
+use mathlib.Core.Path.{_≡_, refl, sym, ap, _∙_}
 use mathlib.Core.List.{List}
 use borrow.Author.Tests.{leb-true}
 use lib.ListN.{length}
@@ -9,15 +9,18 @@ use Rattle.refusal.specs.declared.Verdict.the-variants.{Accepted, Refused}
 use Rattle.refusal.specs.Output.{onto}
 use Rattle.refusal.proofs.Laws.{require-passed, and-passed}
 use Rattle.strip.proofs.RoundTrip.{output-accepted}
+use Rattle.average.specs.declared.average.Average.the-variants.{Present}
+use Rattle.average.specs.Averages.{storedAverage}
+use Rattle.page.specs.declared.tally.TallyOrRefusal.the-variants.{Holds}
 use Rattle.page.specs.Claims.{TallyPromise, MapPromise}
 use Rattle.page.specs.Checks.{checkMap}
 use Rattle.page.proofs.Laws.{tally-checked, map-checked, demand-three, tally-bound, map-bound}
 use Rattle.bands.specs.Checks.{checkBands, checkMapBands}
-use Rattle.bands.specs.Joining.{tallyBands, rowLevels}
+use Rattle.bands.specs.Joining.{tallyBands, joinedLevels}
 use Rattle.bands.specs.Cutting.{tallStrip}
 use Rattle.bands.specs.Claims.{BandsDemandThree}
 use Rattle.bands.proofs.Accepted.{bands-accepted}
-use Rattle.bands.proofs.Tall.{tall-page, bands-are-tall}
+use Rattle.bands.proofs.Tall.{tall-page, tall-tally, bands-are-tall}
 
 -- ---- the two calls
 
@@ -30,7 +33,7 @@ tally-promise r = by (checkBands r) refl
     by Accepted e = rw (bands-are-tall r e .tally) (tally-bound (tallStrip r))
     by (Refused q i) e = rw e tt
 
-pub map-promise : (r output : List ℕ) → checkBands r ≡ Accepted → MapPromise (tallStrip r) Accepted (onto (rowLevels r) output)
+pub map-promise : (r output : List ℕ) → checkBands r ≡ Accepted → MapPromise (tallStrip r) Accepted (onto (joinedLevels r) output)
 map-promise r output e =
     let tall = bands-are-tall r e in
     rw (tall .levels) (map-bound (tallStrip r) output (sym (tally-checked (tallStrip r) (sym (tall .accepted)))))
@@ -48,5 +51,11 @@ tall-mapped r room e =
 pub bands-demand-three : BandsDemandThree
 unfolding checkMapBands
 bands-demand-three r output e lit =
-    let tall = bands-are-tall r (and-passed _ _ e .0) in
-    rw (tall .levels) (demand-three (tallStrip r) output (tall-mapped r (length output) e) lit)
+    let ok = and-passed _ _ e .0 in
+    let tall = bands-are-tall r ok in
+    let page = demand-three (tallStrip r) output (tall-mapped r (length output) e) lit in
+    record {
+      A = page .A;
+      reported = tall .tally ∙ page .reported ∙ ap (λ t. Holds t (Present (page .A) (storedAverage (page .A)))) (sym (tall-tally r (bands-accepted r ok)));
+      bounds = rw (tall .levels) (page .bounds);
+    }

@@ -18,7 +18,7 @@ use Rattle.strip.specs.Checks.{headerFields}
 use Rattle.series.specs.Series.{seriesOf, stripAt, standingAt}
 use Rattle.series.specs.loops.Walks.{seriesFrom}
 use Rattle.series.proofs.Laws.{series-next, series-over, strip-at-within}
-use Rattle.bands.specs.Checks.{checkBand, checkEach, checkBands, joinedRows, tallHeader, checkMapBands}
+use Rattle.bands.specs.Checks.{checkBand, checkEach, checkBands, joinedHeight, tallHeader, checkMapBands}
 use Rattle.bands.proofs.Accepted.{band-accepted, bands-accepted}
 
 -- ---- an empty row, and any other
@@ -81,25 +81,25 @@ module _ (r : List ℕ) (first : Header) where
 
 pub record Counting (r : List ℕ) (rows i : ℕ) : Type 0 where
   pub within : i ≤ length r
-  pub same : rows + joinedRows (seriesFrom r i) ≡ joinedRows (seriesOf r)
+  pub same : rows + joinedHeight (seriesFrom r i) ≡ joinedHeight (seriesOf r)
 
 module _ (r : List ℕ) where
   pub counting-all : Counting r 0 0
-  counting-all = record { within = omega arith; same = zero-add (joinedRows (seriesOf r)) }
+  counting-all = record { within = omega arith; same = zero-add (joinedHeight (seriesOf r)) }
 
   module _ {rows i : ℕ} (inv : Counting r rows i) where
     pub counting-next : i < length r → {band : List ℕ} → band ≡ stripAt r i
         → Counting r (rows + headerFields band .height) (i + length band)
-    unfolding joinedRows
+    unfolding joinedHeight
     counting-next h b =
         let same = rw (series-next r i h) at (inv .same) in
         rw b (record { within = strip-at-within r i h .1; same = omega arith })
 
-    pub counting-done : length r ≤ i → rows ≡ joinedRows (seriesOf r)
-    unfolding joinedRows
+    pub counting-done : length r ≤ i → rows ≡ joinedHeight (seriesOf r)
+    unfolding joinedHeight
     counting-done h = let same = rw (series-over r i h) at (inv .same) in omega arith
 
-  pub few-rows : checkBands r ≡ Accepted → joinedRows (seriesOf r) ≤ 8192
+  pub few-rows : checkBands r ≡ Accepted → joinedHeight (seriesOf r) ≤ 8192
   few-rows e = size-limits _ _ (bands-accepted r e .fits) .height
 
   -- the pixels of all bands

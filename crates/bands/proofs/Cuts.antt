@@ -1,5 +1,5 @@
 -- A strip cut into bands is an accepted row, whose tall strip it is. Assumes nothing.
-use Prim.Native.Nat.{ℕ, zero, suc, _+_, _*_, _≤_}
+use Prim.Native.Nat.{ℕ, _+_, _*_, _≤_}
 use mathlib.Core.Path.{_≡_, refl, sym, ap, ap₂, subst, _∙_}
 use mathlib.Core.Bool.{true}
 use mathlib.Core.List.{List, [], _∷_, _++_, flatMap}
@@ -10,7 +10,7 @@ use lib.ListN.{length, take, drop, length-drop, take-append-drop}
 use lib.Seq.{length-take-le}
 use Rattle.number.specs.declared.channel.Channel.{Channel}
 use Rattle.number.specs.Channels.{IsChannel}
-use Rattle.number.proofs.Laws.{Every, every-take}
+use Rattle.number.proofs.Laws.{Every, every-take, every-drop}
 use Rattle.refusal.specs.declared.Verdict.the-variants.{Accepted}
 use Rattle.refusal.proofs.Laws.{require-met, and-met}
 use Rattle.word.specs.declared.header.Header.{Header}
@@ -20,11 +20,14 @@ use Rattle.strip.specs.Checks.{headerFields, declaredLength, checkStrip}
 use Rattle.strip.specs.Reading.{stripChannels}
 use Rattle.strip.proofs.Limits.{Whole, whole-strip}
 use Rattle.strip.proofs.RoundTrip.{IsPage, header-written, length-written, written-accepted, channels-written, same-words, page-read}
+use Rattle.page.specs.Mapping.{stripLevels}
+use Rattle.page.specs.Tallying.{tallyStrip}
 use Rattle.series.specs.Series.{Standing, stripsFrom, seriesOf}
 use Rattle.series.proofs.Laws.{series-append, standing-met}
-use Rattle.bands.specs.Checks.{withRows, joins, checkBand, checkEach, checkBands, joinedRows}
-use Rattle.bands.specs.Cutting.{rowChannels, cutChannels, cutInto, sumRows}
+use Rattle.bands.specs.Checks.{withRows, joins, checkBand, checkEach, checkBands, joinedHeight, bandHeights, sumHeights}
+use Rattle.bands.specs.Cutting.{joinedChannels, tallStrip, cutChannels, cutInto}
 use Rattle.bands.specs.Claims.{AreItsBands, CutsAreBands}
+use Rattle.bands.proofs.Tall.{bands-are-tall}
 
 -- fewer rows of a width within the limits are within them
 fewer-rows : (w h n : ℕ) → sizeFits w h ≡ true → 1 ≤ n → n ≤ h → sizeFits w n ≡ true
@@ -42,25 +45,20 @@ fewer-rows w h n e least most =
       le-leb (w * n) 16777216 (omega arith),
     )
 
-every-drop : (n : ℕ) (cs : List Channel) → Every IsChannel cs → Every IsChannel (drop n cs)
-every-drop zero cs valid = valid
-every-drop (suc n) [] valid = tt
-every-drop (suc n) (c ∷ cs) valid = every-drop n cs (valid .1)
-
 -- ---- one band after another
 
 -- channels that are left for bands of these heights, below others that have so many rows
 record Left (h : Header) (rows : ℕ) (ns : List ℕ) (cs : List Channel) : Type 0 where
   each : Every (λ n. 1 ≤ n) ns
-  within : rows + sumRows ns ≤ h .height
-  count : length cs ≡ 3 * pixels (withRows h (sumRows ns))
+  within : rows + sumHeights ns ≤ h .height
+  count : length cs ≡ 3 * pixels (withRows h (sumHeights ns))
   valid : Every IsChannel cs
 
 -- the bands that they are cut into, whatever the height of the first of all
 record AreCut (h : Header) (top rows : ℕ) (ns : List ℕ) (cs : List Channel) (bs : List Standing) : Type 0 where
   accepted : checkEach (withRows h top) rows bs ≡ Accepted
-  height : joinedRows bs ≡ sumRows ns
-  channels : rowChannels bs ≡ cs
+  heights : bandHeights bs ≡ ns
+  channels : joinedChannels bs ≡ cs
 
 module _ (h : Header) (size : sizeFits (h .width) (h .height) ≡ true) (key : keyFits (h .key) ≡ true) where
   -- the channels of so many rows
@@ -111,7 +109,7 @@ module _ (h : Header) (size : sizeFits (h .width) (h .height) ≡ true) (key : k
           each = left .each .1;
           within = omega arith;
           count = omega arith;
-          valid = every-drop (channelsIn n) cs (left .valid);
+          valid = every-drop IsChannel (channelsIn n) cs (left .valid);
         }
 
   none-left : (i : ℕ) (cs : List Channel) → stripsFrom i 0 (cutChannels h [] cs) ≡ []
@@ -124,10 +122,10 @@ module _ (h : Header) (size : sizeFits (h .width) (h .height) ≡ true) (key : k
 
   cut : (top i rows : ℕ) (ns : List ℕ) (cs : List Channel) → Left h rows ns cs
       → AreCut h top rows ns cs (stripsFrom i 0 (cutChannels h ns cs))
-  unfolding cutChannels checkEach joinedRows flatMap
+  unfolding cutChannels checkEach joinedHeight flatMap
   cut top i rows [] cs left =
       subst (AreCut h top rows [] cs) (sym (none-left i cs))
-      (record { accepted = refl; height = refl; channels = no-channels cs (left .count) })
+      (record { accepted = refl; heights = refl; channels = no-channels cs (left .count) })
   cut top i rows (n ∷ ns) cs left =
       let b = band rows n ns cs left in
       let rest = cutChannels h ns (drop (channelsIn n) cs) in
@@ -138,7 +136,7 @@ module _ (h : Header) (size : sizeFits (h .width) (h .height) ≡ true) (key : k
         accepted =
             and-met (band-accepted rows n ns cs left top i)
             (ap (λ (g : Header). checkEach (withRows h top) (rows + g .height) (stripsFrom (i + length b) 0 rest)) header ∙ q .accepted);
-        height = ap₂ (λ (g : Header) m. g .height + m) header (q .height);
+        heights = ap₂ (λ (g : Header) ns. g .height ∷ ns) header (q .heights);
         channels =
             ap₂ (λ cs ds. cs ++ ds) (band-channels rows n ns cs left) (q .channels) ∙ take-append-drop (channelsIn n) cs;
       })
@@ -146,7 +144,7 @@ module _ (h : Header) (size : sizeFits (h .width) (h .height) ≡ true) (key : k
 -- ---- a strip
 
 module _ (s : List ℕ) (ok : Whole s) where
-  strip-left : (ns : List ℕ) → Every (λ n. 1 ≤ n) ns → sumRows ns ≡ headerFields s .height → Left (headerFields s) 0 ns (stripChannels s)
+  strip-left : (ns : List ℕ) → Every (λ n. 1 ≤ n) ns → sumHeights ns ≡ headerFields s .height → Left (headerFields s) 0 ns (stripChannels s)
   strip-left ns each sum =
       let q = page-read s ok in
       record {
@@ -156,8 +154,8 @@ module _ (s : List ℕ) (ok : Whole s) where
         valid = q .valid;
       }
 
-  its-bands : (ns : List ℕ) → Every (λ n. 1 ≤ n) ns → sumRows ns ≡ headerFields s .height → AreItsBands s (cutInto ns s)
-  unfolding cutChannels checkBands
+  its-bands : (ns : List ℕ) → Every (λ n. 1 ≤ n) ns → sumHeights ns ≡ headerFields s .height → AreItsBands s ns (cutInto ns s)
+  unfolding cutChannels checkBands joinedHeight
   its-bands [] each sum = let high = size-limits _ _ (ok .head .size-fits) .high in absurd (omega arith)
   its-bands (n ∷ ns) each sum =
       let q = page-read s ok in
@@ -166,12 +164,17 @@ module _ (s : List ℕ) (ok : Whole s) where
       let parts = cut (headerFields s) (q .size) (q .key) n 0 0 (n ∷ ns) (stripChannels s) left in
       let first : headerFields r ≡ withRows (headerFields s) n =
       band-header (headerFields s) (q .size) (q .key) 0 n ns (stripChannels s) left in
+      let accepted = require-met _ _ (le-leb 1 (length r) (omega arith)) (ap (λ g. checkEach g 0 (seriesOf r)) first ∙ parts .accepted) in
+      let tall = bands-are-tall r accepted in
+      let whole : tallStrip r ≡ s =
+      ap (λ g. stripOf (withRows g (joinedHeight (seriesOf r))) (joinedChannels (seriesOf r))) first
+      ∙ ap₂ (λ m cs. stripOf (withRows (headerFields s) m) cs) (ap sumHeights (parts .heights) ∙ sum) (parts .channels) ∙ same-words s ok in
       record {
-        accepted =
-            require-met _ _ (le-leb 1 (length r) (omega arith)) (ap (λ g. checkEach g 0 (seriesOf r)) first ∙ parts .accepted);
-        whole =
-            ap (λ g. stripOf (withRows g (joinedRows (seriesOf r))) (rowChannels (seriesOf r))) first
-            ∙ ap₂ (λ m cs. stripOf (withRows (headerFields s) m) cs) (parts .height ∙ sum) (parts .channels) ∙ same-words s ok;
+        accepted = accepted;
+        rows = parts .heights;
+        whole = whole;
+        tally = tall .tally ∙ ap tallyStrip whole;
+        levels = tall .levels ∙ ap stripLevels whole;
       }
 
 pub cuts-are-bands : CutsAreBands

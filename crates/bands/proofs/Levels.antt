@@ -1,10 +1,10 @@
 -- What mapping a row of bands leaves in the output. Assumes nothing.
 use Prim.Native.Nat.{ℕ, _*_, _≤_}
-use mathlib.Core.Path.{_≡_, sym, _∙_}
+use mathlib.Core.Path.{_≡_, sym, ap, _∙_}
 use mathlib.Core.List.{List}
 use borrow.Author.Tests.{leb-true}
 use lib.IntN.{ℤ}
-use lib.ListN.{length, replicate, length-replicate}
+use lib.ListN.{length, replicate}
 use Rattle.number.specs.declared.ratio.Stored.{Stored}
 use Rattle.refusal.specs.declared.Refusal.{Refusal}
 use Rattle.refusal.specs.declared.Verdict.{Verdict}
@@ -17,15 +17,16 @@ use Rattle.strip.specs.Checks.{headerFields}
 use Rattle.average.specs.declared.average.Average.the-variants.{Absent, Present}
 use Rattle.body.specs.Levels.{levelsUnder}
 use Rattle.body.specs.loops.Indices.{indicesOf}
-use Rattle.body.proofs.Laws.{length-indices, length-levels, over-indices}
+use Rattle.average.proofs.Laws.{absent}
+use Rattle.body.proofs.Laws.{length-indices, length-levels, dark-indices, over-indices}
 use Rattle.page.specs.Claims.{MapPromise}
 use Rattle.page.specs.Mapping.{toneOf}
 use Rattle.series.specs.Series.{seriesOf}
 use Rattle.bands.specs.Checks.{checkBands, tallHeader, checkMapBands}
 use Rattle.bands.specs.Cutting.{tallStrip}
-use Rattle.bands.specs.Joining.{joinedAverage, rowLevels}
-use Rattle.bands.specs.loops.Walks.{rowPixels, HoldsRow}
-use Rattle.bands.proofs.Accepted.{AreBands, bands-accepted, count-all, levels-of}
+use Rattle.bands.specs.Joining.{joinedAverage, joinedLevels}
+use Rattle.bands.specs.loops.Walks.{joinedPixels, HoldsAll}
+use Rattle.bands.proofs.Accepted.{AreBands, bands-accepted, tallies-of, levels-of}
 use Rattle.bands.proofs.Bounds.{map-promise}
 
 -- ---- an accepted row and output
@@ -42,28 +43,29 @@ map-limits r room e =
 
 -- ---- over the indices that the tally left
 
-module _ (r : List ℕ) (e : checkBands r ≡ Accepted) (old : List ℕ) {kept : List ℕ} (k : kept ≡ onto (indicesOf (rowPixels (seriesOf r))) old) where
+module _ (r : List ℕ) (e : checkBands r ≡ Accepted) (old : List ℕ) {kept : List ℕ} (k : kept ≡ onto (indicesOf (joinedPixels (seriesOf r))) old) where
   ok : AreBands r
   ok = bands-accepted r e
 
-  pub indices-left : HoldsRow r kept
-  indices-left = let ps = rowPixels (seriesOf r) in rw k (record { front = over-indices ps (indicesOf ps) old (length-indices ps) })
+  -- without a lit pixel they are the levels
+  pub black-left : joinedAverage (seriesOf r) ≡ Absent → kept ≡ onto (joinedLevels r) old
+  black-left none =
+      let bs = seriesOf r in
+      let dark = dark-indices (joinedPixels bs) (ap (λ t. t .count) (sym (tallies-of bs)) ∙ absent _ _ none) in
+      let zeros : joinedLevels r ≡ replicate (3 * length (joinedPixels bs)) 0 =
+      levels-of (joinedAverage bs) (headerFields r) bs (ok .each) ∙ rw none in
+      k ∙ ap (λ xs. onto xs old) (dark ∙ sym zeros)
+
+  pub indices-left : HoldsAll r kept
+  indices-left = let ps = joinedPixels (seriesOf r) in rw k (record { front = over-indices ps (indicesOf ps) old (length-indices ps) })
 
   module _ {new : List ℕ} where
-    pub black-left : joinedAverage (seriesOf r) ≡ Absent → {n : ℕ} → n ≡ 3 * pixels (tallHeader r) → new ≡ onto (replicate n 0) kept
-        → new ≡ onto (rowLevels r) old
-    black-left absent n f =
-        let ps = rowPixels (seriesOf r) in
-        let zeros : rowLevels r ≡ replicate (3 * length ps) 0 =
-        levels-of (joinedAverage (seriesOf r)) (headerFields r) (seriesOf r) (ok .each) ∙ rw absent in
-        f ∙ rw (n, ← count-all r ok, zeros, k) (over-indices ps (replicate (3 * length ps) 0) old (length-replicate (3 * length ps) 0))
-
     pub levels-left : {A : ℤ} {a : Stored} → joinedAverage (seriesOf r) ≡ Present A a
-        → new ≡ onto (levelsUnder (toneOf (headerFields r) a) (rowPixels (seriesOf r))) kept → new ≡ onto (rowLevels r) old
+        → new ≡ onto (levelsUnder (toneOf (headerFields r) a) (joinedPixels (seriesOf r))) kept → new ≡ onto (joinedLevels r) old
     levels-left {a = a} present f =
-        let ps = rowPixels (seriesOf r) in
+        let ps = joinedPixels (seriesOf r) in
         let tone = toneOf (headerFields r) a in
-        let levels : rowLevels r ≡ levelsUnder tone ps =
+        let levels : joinedLevels r ≡ levelsUnder tone ps =
         levels-of (joinedAverage (seriesOf r)) (headerFields r) (seriesOf r) (ok .each) ∙ rw present in
         f ∙ rw (levels, k) (over-indices ps (levelsUnder tone ps) old (length-levels tone ps))
 
@@ -72,11 +74,11 @@ module _ (r : List ℕ) (e : checkBands r ≡ Accepted) (old : List ℕ) {kept :
 abbrev MapsBands : (r old : List ℕ) → Verdict → (new : List ℕ) → Type 0
 MapsBands r old v new =
     (v ≡ checkMapBands r (length old))
-    × ((reportOf v ≡ reportOf (checkMapBands r (length old))) × ((new ≡ after v (rowLevels r) old) × MapPromise (tallStrip r) v new))
+    × ((reportOf v ≡ reportOf (checkMapBands r (length old))) × ((new ≡ after v (joinedLevels r) old) × MapPromise (tallStrip r) v new))
 
 pub left-alone : (r old : List ℕ) {v : Verdict} {q : Refusal} {i : ℕ} → v ≡ checkMapBands r (length old) → v ≡ Refused q i
     → MapsBands r old v old
 left-alone r old e f = also-with reportOf e (rw f, rw f tt)
 
-pub filled : (r old new : List ℕ) → Accepted ≡ checkMapBands r (length old) → new ≡ onto (rowLevels r) old → MapsBands r old Accepted new
+pub filled : (r old new : List ℕ) → Accepted ≡ checkMapBands r (length old) → new ≡ onto (joinedLevels r) old → MapsBands r old Accepted new
 filled r old new e f = also-with reportOf e (f, rw f (map-promise r old (map-limits r (length old) (sym e) .bands)))

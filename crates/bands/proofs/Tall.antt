@@ -5,10 +5,9 @@ use mathlib.Core.Bool.{true}
 use mathlib.Core.List.{List, [], _∷_, _++_, flatMap}
 use native.Mathlib.Omega.{arith}
 use lib.ListN.{length, length-append}
-use Rattle.number.specs.declared.channel.Channel.{Channel}
 use Rattle.number.specs.declared.channel.Pixel.{Pixel}
 use Rattle.number.specs.Channels.{IsChannel}
-use Rattle.number.proofs.Laws.{Every}
+use Rattle.number.proofs.Laws.{Every, every-append}
 use Rattle.refusal.specs.declared.Verdict.the-variants.{Accepted}
 use Rattle.word.specs.declared.header.Header.{Header}
 use Rattle.word.specs.Words.{pixels, keyFits}
@@ -26,41 +25,37 @@ use Rattle.page.specs.Mapping.{pageLevels, stripLevels}
 use Rattle.page.proofs.Laws.{tally-checked}
 use Rattle.series.specs.Series.{Standing, seriesOf}
 use Rattle.series.proofs.Laws.{series-next}
-use Rattle.bands.specs.Checks.{withRows, joinedRows, tallHeader}
-use Rattle.bands.specs.Joining.{joinTallies, tallyBands, joinedAverage, rowLevels}
-use Rattle.bands.specs.Cutting.{rowChannels, tallStrip}
+use Rattle.bands.specs.Checks.{withRows, joinedHeight, tallHeader}
+use Rattle.bands.specs.Joining.{joinTallies, tallyBands, joinedAverage, joinedLevels}
+use Rattle.bands.specs.Cutting.{joinedChannels, tallStrip}
 use Rattle.bands.specs.Claims.{BandsAreTall}
-use Rattle.bands.specs.loops.Walks.{rowPixels}
+use Rattle.bands.specs.loops.Walks.{joinedPixels}
 use Rattle.bands.proofs.Accepted.{IsBand, AreBands, bands-accepted, tallies-of, levels-of}
 
 -- ---- the channels of bands, one after another
 
-every-append : (cs ds : List Channel) → Every IsChannel cs → Every IsChannel ds → Every IsChannel (cs ++ ds)
-every-append [] ds p q = q
-every-append (c ∷ cs) ds p q = (p .0, every-append cs ds (p .1) q)
-
 module _ (first : Header) where
-  row-count : (bs : List Standing) → Every (IsBand first) bs → length (rowChannels bs) ≡ 3 * pixels (withRows first (joinedRows bs))
-  unfolding flatMap joinedRows
+  row-count : (bs : List Standing) → Every (IsBand first) bs → length (joinedChannels bs) ≡ 3 * pixels (withRows first (joinedHeight bs))
+  unfolding flatMap joinedHeight
   row-count [] valid = omega arith
   row-count (b ∷ bs) valid =
       let n = page-read (b .strip) (valid .0 .whole) .count in
       let rest = row-count bs (valid .1) in
-      length-append (stripChannels (b .strip)) (rowChannels bs) ∙ rw (n, rest, valid .0 .width) (omega arith)
+      length-append (stripChannels (b .strip)) (joinedChannels bs) ∙ rw (n, rest, valid .0 .width) (omega arith)
 
-  row-valid : (bs : List Standing) → Every (IsBand first) bs → Every IsChannel (rowChannels bs)
+  row-valid : (bs : List Standing) → Every (IsBand first) bs → Every IsChannel (joinedChannels bs)
   unfolding flatMap
   row-valid [] valid = tt
   row-valid (b ∷ bs) valid =
-      every-append (stripChannels (b .strip)) (rowChannels bs) (page-read (b .strip) (valid .0 .whole) .valid) (row-valid bs (valid .1))
+      every-append IsChannel (stripChannels (b .strip)) (joinedChannels bs) (page-read (b .strip) (valid .0 .whole) .valid) (row-valid bs (valid .1))
 
   -- each band has whole pixels
-  row-pixels : (bs : List Standing) → Every (IsBand first) bs → pixelsOf (rowChannels bs) ≡ rowPixels bs
+  row-pixels : (bs : List Standing) → Every (IsBand first) bs → pixelsOf (joinedChannels bs) ≡ joinedPixels bs
   unfolding flatMap
   row-pixels [] valid = refl
   row-pixels (b ∷ bs) valid =
       let n = page-read (b .strip) (valid .0 .whole) .count in
-      pixels-append (stripChannels (b .strip)) (rowChannels bs) (omega arith)
+      pixels-append (stripChannels (b .strip)) (joinedChannels bs) (omega arith)
       ∙ ap (λ ps. stripPixels (b .strip) ++ ps) (row-pixels bs (valid .1))
 
 -- ---- the tall strip
@@ -77,7 +72,7 @@ same-key Absent h k ps e = refl
 same-key (Present A a) h k ps e = rw e
 
 module _ (r : List ℕ) (ok : AreBands r) where
-  pub tall-page : IsPage (tallHeader r) (rowChannels (seriesOf r))
+  pub tall-page : IsPage (tallHeader r) (joinedChannels (seriesOf r))
   tall-page =
       record {
         size = ok .fits;
@@ -93,13 +88,13 @@ module _ (r : List ℕ) (ok : AreBands r) where
   pub tall-header : headerFields (tallStrip r) ≡ tallHeader r
   tall-header = header-written _ _ tall-page
 
-  pub tall-pixels : stripPixels (tallStrip r) ≡ rowPixels (seriesOf r)
+  pub tall-pixels : stripPixels (tallStrip r) ≡ joinedPixels (seriesOf r)
   tall-pixels = ap pixelsOf (channels-written _ _ tall-page) ∙ row-pixels (headerFields r) (seriesOf r) (ok .each)
 
   pub tall-tally : joinTallies (seriesOf r) ≡ tallyOf (stripLuminances (tallStrip r))
   tall-tally = tallies-of (seriesOf r) ∙ ap (λ ps. tallyOf (luminancesOf ps)) (sym tall-pixels)
 
-  pub tall-levels : rowLevels r ≡ stripLevels (tallStrip r)
+  pub tall-levels : joinedLevels r ≡ stripLevels (tallStrip r)
   tall-levels =
       let s = tallStrip r in
       levels-of (joinedAverage (seriesOf r)) (headerFields r) (seriesOf r) (ok .each)

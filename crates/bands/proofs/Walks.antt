@@ -1,11 +1,11 @@
 -- Walks over accepted bands: what the bands that were passed come to. Assumes nothing.
 use Prim.Native.Nat.{ℕ, _+_, _*_, _≤_, _<_}
 use mathlib.Core.Path.{_≡_, refl, sym, ap, subst, _∙_}
-use mathlib.Core.List.{List, [], _∷_, _++_, append-assoc, append-nil, flatMap}
+use mathlib.Core.List.{List, [], _++_, append-assoc, append-nil, flatMap}
 use native.Mathlib.Omega.{arith}
 use lib.ListN.{length, length-append}
 use Rattle.number.specs.declared.channel.Pixel.{Pixel}
-use Rattle.number.proofs.Laws.{Every}
+use Rattle.number.proofs.Laws.{Every, every-append}
 use Rattle.refusal.specs.Output.{onto}
 use Rattle.word.specs.Pixels.{wordPixels}
 use Rattle.strip.specs.Checks.{headerFields, bodyPart}
@@ -28,7 +28,7 @@ use Rattle.series.specs.Series.{seriesOf, stripAt, standingAt}
 use Rattle.series.specs.loops.Walks.{seriesFrom}
 use Rattle.series.proofs.Laws.{series-next, series-over}
 use Rattle.bands.specs.Joining.{joinTallies}
-use Rattle.bands.specs.loops.Walks.{rowPixels}
+use Rattle.bands.specs.loops.Walks.{joinedPixels}
 use Rattle.bands.proofs.Accepted.{IsBand, AreBands, few-pixels, tallies-of}
 
 -- ---- where a walk stands: `passed` are the pixels of the bands that were passed
@@ -36,11 +36,7 @@ use Rattle.bands.proofs.Accepted.{IsBand, AreBands, few-pixels, tallies
 pub record Walked (r : List ℕ) (i : ℕ) (passed : List Pixel) : Type 0 where
   pub bands : Every (IsBand (headerFields r)) (seriesFrom r i)
   pub valid : Every IsPixel passed
-  pub all : passed ++ rowPixels (seriesFrom r i) ≡ rowPixels (seriesOf r)
-
-every-append : {X : Type 0} (P : X → Type 0) (xs ys : List X) → Every P xs → Every P ys → Every P (xs ++ ys)
-every-append P [] ys h g = g
-every-append P (x ∷ xs) ys h g = (h .0, every-append P xs ys (h .1) g)
+  pub all : passed ++ joinedPixels (seriesFrom r i) ≡ joinedPixels (seriesOf r)
 
 module _ (r : List ℕ) (ok : AreBands r) where
   pub walked-none : Walked r 0 []
@@ -51,10 +47,10 @@ module _ (r : List ℕ) (ok : AreBands r) where
     pub few-passed : length ps ≤ 16777216
     few-passed =
         let few = few-pixels r ok in
-        let all = length-append ps (rowPixels (seriesFrom r i)) in
+        let all = length-append ps (joinedPixels (seriesFrom r i)) in
         omega (arith, ap length (w .all))
 
-    pub walked-all : length r ≤ i → ps ≡ rowPixels (seriesOf r)
+    pub walked-all : length r ≤ i → ps ≡ joinedPixels (seriesOf r)
     unfolding flatMap
     walked-all h = sym (append-nil ps) ∙ (rw (series-over r i h) at (w .all))
 
@@ -83,8 +79,8 @@ module _ (r : List ℕ) (ok : AreBands r) where
               bands = rw b (first-left .1);
               valid = every-append IsPixel ps (wordPixels words) (w .valid) words-valid;
               all =
-                  append-assoc ps (wordPixels words) (rowPixels (seriesFrom r (i + length band)))
-                  ∙ rw (words-pixels, b) (sym (ap (λ ss. ps ++ rowPixels ss) (series-next r i h)) ∙ w .all);
+                  append-assoc ps (wordPixels words) (joinedPixels (seriesFrom r (i + length band)))
+                  ∙ rw (words-pixels, b) (sym (ap (λ ss. ps ++ joinedPixels ss) (series-next r i h)) ∙ w .all);
             }
 
         -- three words a pixel; the bytes of all pixels so far are not more than the page's
@@ -94,10 +90,10 @@ module _ (r : List ℕ) (ok : AreBands r) where
             let m = count-pixels band whole in
             rw (words-pixels, e) (omega arith)
 
-        pub words-room : 3 * length ps + 3 * length (wordPixels words) ≤ 3 * length (rowPixels (seriesOf r))
+        pub words-room : 3 * length ps + 3 * length (wordPixels words) ≤ 3 * length (joinedPixels (seriesOf r))
         words-room =
             let all = ap length (walked-next .all) in
-            let front = length-append (ps ++ wordPixels words) (rowPixels (seriesFrom r (i + length band))) in
+            let front = length-append (ps ++ wordPixels words) (joinedPixels (seriesFrom r (i + length band))) in
             let long = length-append ps (wordPixels words) in
             omega arith
 

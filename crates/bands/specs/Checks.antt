@@ -3,7 +3,7 @@
 -- in one lent row"
 use Prim.Native.Nat.{ℕ, _+_, _*_}
 use mathlib.Core.Bool.{Bool, _&&_}
-use mathlib.Core.List.{List, [], _∷_}
+use mathlib.Core.List.{List, [], _∷_, map}
 use lib.Dec.{leb, eqb}
 use lib.ListN.{length}
 use Rattle.refusal.specs.declared.Refusal.the-variants.{WrongLength, SmallOutput, UnlikeBands}
@@ -17,39 +17,49 @@ use Rattle.strip.specs.Checks.{headerFields}
 use Rattle.strip.specs.Reading.{headerUnder}
 use Rattle.series.specs.Series.{Standing, seriesOf, checkStanding}
 
+-- what a band declares
 abbrev pub bandHeader : Standing → Header
 bandHeader b = headerFields (b .strip)
 
--- the page that bands with this first header make, when they have so many rows
-abbrev pub withRows : Header → (rows : ℕ) → Header
-withRows first rows = record { width = first .width; height = rows; key = first .key }
+-- ---- the checks; `above` is the number of rows of the bands above
 
--- a band below others that have so many rows is not "a width or key unlike the first band's or a joined size over the limits of 1"
-unfoldable pub joins : (first : Header) (rows : ℕ) (band : Header) → Bool
-joins first rows band =
-    eqb (band .width) (first .width) && eqb (band .key) (first .key) && sizeFits (first .width) (rows + band .height)
+-- a band is not refused for "a width or key unlike the first band's or a joined size over the limits of 1"
+unfoldable pub joins : (first : Header) (above : ℕ) (band : Header) → Bool
+joins first above band =
+    eqb (band .width) (first .width) && eqb (band .key) (first .key) && sizeFits (first .width) (above + band .height)
 
 -- "21 unlike bands, place 0, [..] after that band's own checks"
-unfoldable pub checkBand : (first : Header) (rows : ℕ) → Standing → Verdict
-checkBand first rows b = andThen (checkStanding b) (require (joins first rows (bandHeader b)) UnlikeBands 0 Accepted)
+unfoldable pub checkBand : (first : Header) (above : ℕ) → Standing → Verdict
+checkBand first above b = andThen (checkStanding b) (require (joins first above (bandHeader b)) UnlikeBands 0 Accepted)
 
--- band by band, below others that have so many rows
-unfoldable pub checkEach : (first : Header) (rows : ℕ) → List Standing → Verdict
-checkEach first rows [] = Accepted
-checkEach first rows (b ∷ bs) = andThen (checkBand first rows b) (checkEach first (rows + bandHeader b .height) bs)
+-- band by band
+unfoldable pub checkEach : (first : Header) (above : ℕ) → List Standing → Verdict
+checkEach first above [] = Accepted
+checkEach first above (b ∷ bs) = andThen (checkBand first above b) (checkEach first (above + bandHeader b .height) bs)
 
--- "an empty row or a cut last band is 3"; the first words of a row are its first band's
+-- "an empty row [..] is 3"; a cut band is 3 by its own checks. The first words of a row are its first band's, which declares three or more.
 unfoldable pub checkBands : List ℕ → Verdict
 checkBands r = require (leb 1 (length r)) WrongLength 0 (checkEach (headerFields r) 0 (seriesOf r))
 
 -- ---- the header of the whole
 
-unfoldable pub joinedRows : List Standing → ℕ
-joinedRows [] = 0
-joinedRows (b ∷ bs) = bandHeader b .height + joinedRows bs
+-- the same page with another number of rows
+abbrev pub withRows : Header → (rows : ℕ) → Header
+withRows h rows = record { width = h .width; height = rows; key = h .key }
+
+abbrev pub bandHeights : List Standing → List ℕ
+bandHeights bs = map (λ b. bandHeader b .height) bs
+
+abbrev pub sumHeights : List ℕ → ℕ
+sumHeights [] = 0
+sumHeights (n ∷ ns) = n + sumHeights ns
+
+-- the joined height
+unfoldable pub joinedHeight : List Standing → ℕ
+joinedHeight bs = sumHeights (bandHeights bs)
 
 abbrev pub tallHeader : List ℕ → Header
-tallHeader r = withRows (headerFields r) (joinedRows (seriesOf r))
+tallHeader r = withRows (headerFields r) (joinedHeight (seriesOf r))
 
 -- width, joined height and key; of a refused row its refusal
 abbrev pub readBands : List ℕ → HeaderOrRefusal

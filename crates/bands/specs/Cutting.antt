@@ -1,5 +1,5 @@
 -- The one tall strip of a row of bands, and a strip cut into bands. Assumes nothing.
-use Prim.Native.Nat.{ℕ, _+_, _*_}
+use Prim.Native.Nat.{ℕ, _*_}
 use mathlib.Core.List.{List, [], _∷_, _++_, flatMap}
 use lib.ListN.{take, drop}
 use Rattle.number.specs.declared.channel.Channel.{Channel}
@@ -11,14 +11,14 @@ use Rattle.series.specs.Series.{Standing, seriesOf}
 use Rattle.bands.specs.Checks.{withRows, tallHeader}
 
 -- the channels of all bands, one after another
-abbrev pub rowChannels : List Standing → List Channel
-rowChannels bs = flatMap (λ b. stripChannels (b .strip)) bs
+abbrev pub joinedChannels : List Standing → List Channel
+joinedChannels bs = flatMap (λ b. stripChannels (b .strip)) bs
 
 -- "the one tall strip": the first band's width and key, the sum of the heights, all channels
 abbrev pub tallStrip : List ℕ → List ℕ
-tallStrip r = stripOf (tallHeader r) (rowChannels (seriesOf r))
+tallStrip r = stripOf (tallHeader r) (joinedChannels (seriesOf r))
 
--- channels of a page cut into bands of these heights
+-- the row of bands of these heights that the channels of a page are cut into
 unfoldable pub cutChannels : Header → (heights : List ℕ) → List Channel → List ℕ
 cutChannels h [] cs = []
 cutChannels h (n ∷ ns) cs =
@@ -28,8 +28,3 @@ cutChannels h (n ∷ ns) cs =
 -- a strip cut "into whole rows"
 abbrev pub cutInto : (heights : List ℕ) → List ℕ → List ℕ
 cutInto ns s = cutChannels (headerFields s) ns (stripChannels s)
-
--- the rows of heights together
-abbrev pub sumRows : List ℕ → ℕ
-sumRows [] = 0
-sumRows (n ∷ ns) = n + sumRows ns

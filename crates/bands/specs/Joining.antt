@@ -29,5 +29,5 @@ abbrev pub bandLevels : Average → Standing → List ℕ
 bandLevels average b = pageLevels average (bandHeader b) (stripPixels (b .strip))
 
 -- "Bands are then mapped under the joined average", "their levels one after another"
-abbrev pub rowLevels : List ℕ → List ℕ
-rowLevels r = flatMap (bandLevels (joinedAverage (seriesOf r))) (seriesOf r)
+abbrev pub joinedLevels : List ℕ → List ℕ
+joinedLevels r = flatMap (bandLevels (joinedAverage (seriesOf r))) (seriesOf r)

@@ -6,7 +6,7 @@ ghost use Rattle.refusal.specs.declared.Verdict.{Verdict};
 ghost use Rattle.word.specs.Words.{pixels};
 ghost use Rattle.strip.specs.Reading.{headerTold};
 ghost use Rattle.series.specs.Series.{seriesOf, standingAt};
-ghost use Rattle.bands.specs.Checks.{joins, checkBand, checkBands, joinedRows, tallHeader, readBands, checkMapBands};
+ghost use Rattle.bands.specs.Checks.{joins, checkBand, checkBands, joinedHeight, tallHeader, readBands, checkMapBands};
 use refusal::Refusal;
 use refusal::Verdict;
 use series::check_at;
@@ -16,10 +16,10 @@ use strip::read::header_fields;
 use word::header::Header;
 use word::header::size_fits;
 
-// Whether a band is like the first one and the joined size within the limits, below bands that have so many rows.
-fn joins_bands(first: Header, rows: u64, band: Header) -> bool
-    requires { ⌜ (rows ≤ 8192) × (band .height < 16384) ⌝ }
-    ensures { λ r. ⌜ r ≡ joins first rows band ⌝ }
+// Whether a band is like the first one and the joined size within the limits; `above` is the number of rows of the bands above.
+fn joins_bands(first: Header, above: u64, band: Header) -> bool
+    requires { ⌜ (above ≤ 8192) × (band .height < 16384) ⌝ }
+    ensures { λ r. ⌜ r ≡ joins first above band ⌝ }
 {
     if band.width != first.width {
         return false;
@@ -27,19 +27,19 @@ fn joins_bands(first: Header, rows: u64, band: Header) -> bool
     if band.key != first.key {
         return false;
     }
-    size_fits(first.width, rows + band.height)
+    size_fits(first.width, above + band.height)
 }
 
-// One band, below bands that have so many rows: its own checks, then those of joining.
-fn check_band(row: &[u32], start: usize, first: Header, rows: u64) -> Verdict
-    requires { ⌜ (start ≤ length (now row)) × (rows ≤ 8192) ⌝ }
-    ensures { λ r. ⌜ r ≡ checkBand first rows (standingAt (now (row .entry)) start) ⌝ }
+// One band: its own checks, then those of joining.
+fn check_band(row: &[u32], start: usize, first: Header, above: u64) -> Verdict
+    requires { ⌜ (start ≤ length (now row)) × (above ≤ 8192) ⌝ }
+    ensures { λ r. ⌜ r ≡ checkBand first above (standingAt (now (row .entry)) start) ⌝ }
 {
     let verdict = check_at(row, start);
     let Verdict::Accepted = verdict else {
         return verdict;
     };
-    if joins_bands(first, rows, header_fields(strip_at(row, start))) {
+    if joins_bands(first, above, header_fields(strip_at(row, start))) {
         Verdict::Accepted
     } else {
         Verdict::Refused(Refusal::UnlikeBands, 0)
@@ -54,42 +54,42 @@ pub(crate) fn check(row: &[u32]) -> Verdict
         return Verdict::Refused(Refusal::WrongLength, 0);
     }
     let first = header_fields(row);
-    let mut rows: u64 = 0;
+    let mut above: u64 = 0;
     let mut i: usize = 0;
     while i < row.len() {
-        let verdict = check_band(row, i, first, rows);
+        let verdict = check_band(row, i, first, above);
         let Verdict::Accepted = verdict else {
             return verdict;
         };
         let band = strip_at(row, i);
-        rows += header_fields(band).height;
+        above += header_fields(band).height;
         i += band.len();
     }
     Verdict::Accepted
 }
 
-// The rows of all bands together.
-fn joined_rows(row: &[u32]) -> u64
+// The joined height.
+fn joined_height(row: &[u32]) -> u64
     requires { ⌜ checkBands (now row) ≡ Verdict.Accepted ⌝ }
-    ensures { λ r. ⌜ r ≡ joinedRows (seriesOf (now (row .entry))) ⌝ }
+    ensures { λ r. ⌜ r ≡ joinedHeight (seriesOf (now (row .entry))) ⌝ }
 {
-    let mut rows: u64 = 0;
+    let mut height: u64 = 0;
     let mut i: usize = 0;
     while i < row.len() {
         let band = strip_at(row, i);
-        rows += header_fields(band).height;
+        height += header_fields(band).height;
         i += band.len();
     }
-    rows
+    height
 }
 
 // The level bytes of all bands, three a pixel.
-pub(crate) fn level_bytes(row: &[u32]) -> usize
+fn level_bytes(row: &[u32]) -> usize
     requires { ⌜ checkBands (now row) ≡ Verdict.Accepted ⌝ }
     ensures { λ r. ⌜ r ≡ 3 * pixels (tallHeader (now (row .entry))) ⌝ }
 {
     let width = header_fields(row).width;
-    (3 * (width * joined_rows(row))) as usize
+    (3 * (width * joined_height(row))) as usize
 }
 
 // The width, joined height and key of a row of bands, or its refusal.
@@ -103,7 +103,7 @@ pub fn header(row: &[u32]) -> HeaderOrRefusal
             let first = header_fields(row);
             HeaderOrRefusal::Holds(Header {
                 width: first.width,
-                height: joined_rows(row),
+                height: joined_height(row),
                 key: first.key,
             })
         },

@@ -13,10 +13,9 @@ ghost use Rattle.page.specs.Claims.{MapPromise};
 ghost use Rattle.series.specs.Series.{seriesOf};
 ghost use Rattle.bands.specs.Checks.{checkBands, tallHeader, checkMapBands};
 ghost use Rattle.bands.specs.Cutting.{tallStrip};
-ghost use Rattle.bands.specs.Joining.{joinTallies, rowLevels};
-ghost use Rattle.bands.specs.loops.Walks.{rowPixels, HoldsRow};
+ghost use Rattle.bands.specs.Joining.{joinTallies, joinedLevels};
+ghost use Rattle.bands.specs.loops.Walks.{joinedPixels, HoldsAll};
 use crate::check::check_map;
-use crate::check::level_bytes;
 use crate::tally::no_tally;
 use average::average::Average;
 use average::average::average_of;
@@ -24,7 +23,6 @@ use average::join::join;
 use average::tally::Tally;
 use body::levels::map_levels;
 use body::tally::tally_keeping;
-use page::map::clear_levels;
 use page::map::tone_of;
 use refusal::Verdict;
 use series::strip_at;
@@ -36,7 +34,7 @@ use tone::tone::Tone;
 fn keep_tallies(row: &[u32], output: &mut [u8]) -> Tally
     requires { ⌜ (checkBands (now row) ≡ Verdict.Accepted) × (3 * pixels (tallHeader (now row)) ≤ length (now output)) ⌝ }
     ensures tally { λ r. ⌜ r ≡ joinTallies (seriesOf (now (row .entry))) ⌝ }
-    ensures content { λ _. ⌜ now (output .exit) ≡ onto (indicesOf (rowPixels (seriesOf (now (row .entry))))) (now (output .entry)) ⌝ }
+    ensures content { λ _. ⌜ now (output .exit) ≡ onto (indicesOf (joinedPixels (seriesOf (now (row .entry))))) (now (output .entry)) ⌝ }
 {
     let mut tally = no_tally();
     let mut i: usize = 0;
@@ -54,8 +52,8 @@ fn keep_tallies(row: &[u32], output: &mut [u8]) -> Tally
 
 // The levels of all bands under a tone, each in its part of the output, in the place of the indices of its luminances.
 fn map_each(row: &[u32], tone: Tone, output: &mut [u8])
-    requires { ⌜ (checkBands (now row) ≡ Verdict.Accepted) × IsTone tone × HoldsRow (now row) (now output) ⌝ }
-    ensures { λ _. ⌜ now (output .exit) ≡ onto (levelsUnder tone (rowPixels (seriesOf (now (row .entry))))) (now (output .entry)) ⌝ }
+    requires { ⌜ (checkBands (now row) ≡ Verdict.Accepted) × IsTone tone × HoldsAll (now row) (now output) ⌝ }
+    ensures { λ _. ⌜ now (output .exit) ≡ onto (levelsUnder tone (joinedPixels (seriesOf (now (row .entry))))) (now (output .entry)) ⌝ }
 {
     let mut i: usize = 0;
     let mut done: usize = 0;
@@ -72,7 +70,7 @@ fn map_each(row: &[u32], tone: Tone, output: &mut [u8])
 pub fn map(row: &[u32], output: &mut [u8]) -> Verdict
     ensures verdict { λ r. ⌜ r ≡ checkMapBands (now (row .entry)) (length (now (output .entry))) ⌝ }
     ensures outcome { λ r. ⌜ reportOf r ≡ reportOf (checkMapBands (now (row .entry)) (length (now (output .entry)))) ⌝ }
-    ensures content { λ r. ⌜ now (output .exit) ≡ after r (rowLevels (now (row .entry))) (now (output .entry)) ⌝ }
+    ensures content { λ r. ⌜ now (output .exit) ≡ after r (joinedLevels (now (row .entry))) (now (output .entry)) ⌝ }
     ensures bound { λ r. ⌜ MapPromise (tallStrip (now (row .entry))) r (now (output .exit)) ⌝ }
 {
     let verdict = check_map(row, output.len());
@@ -80,8 +78,8 @@ pub fn map(row: &[u32], output: &mut [u8]) -> Verdict
         return verdict;
     };
     let tally = keep_tallies(row, output);
+    // Where no pixel is lit, the indices are zeros, and so are the levels.
     let Average::Present(_, average) = average_of(tally.count, tally.sum) else {
-        clear_levels(level_bytes(row), output);
         return Verdict::Accepted;
     };
     map_each(row, tone_of(header_fields(row), average), output);

@@ -1,10 +1,9 @@
 -- The tally of pixels by the indices of their luminances: sums, lowest numbers, and what they come to. Assumes nothing.
 use Prim.Native.Nat.{ℕ, zero, suc, _+_, _-_, _*_, _≤_, _<_, min}
-use mathlib.Core.Path.{_≡_, refl, sym, ap, ap₂, subst, _∙_}
+use mathlib.Core.Path.{_≡_, refl, sym, ap, ap₂, _∙_}
 use mathlib.Core.Bool.{Bool, true, false, cond}
-use mathlib.Core.Logic.{⊎-elim}
 use mathlib.Core.List.{List, [], _∷_, _++_, map, map-append}
-use native.Mathlib.Nat.{le-refl, le-of-lt, eq-or-lt-of-le}
+use native.Mathlib.Nat.{le-refl}
 use native.Mathlib.Omega.{arith}
 use lib.Dec.{leb}
 use lib.ListN.{length, getD, set, drop, take, replicate}
@@ -13,7 +12,7 @@ use native.Mathlib.Numerals.{add-one}
 use borrow.Author.Tests.{leb-true, leb-false, le-leb, lt-leb, ne-eqb}
 use Rattle.number.specs.declared.channel.Pixel.{Pixel}
 use Rattle.number.specs.declared.ratio.Stored.{Stored}
-use Rattle.number.proofs.Laws.{Every, IsMantissa, unit, atMost, storedWorth, code-order}
+use Rattle.number.proofs.Laws.{Every, IsMantissa, atMost, storedWorth}
 use Rattle.refusal.specs.Output.{onto}
 use Rattle.luminance.specs.declared.pixel.Luminance.{Luminance}
 use Rattle.luminance.specs.declared.pixel.Luminance.the-variants.{Unlit, Lit}
@@ -23,7 +22,7 @@ use Rattle.luminance.proofs.Laws.{luminance-range, index-stored, index-range}
 use Rattle.average.specs.declared.tally.Extremes.the-variants.{Both}
 use Rattle.average.specs.Tallies.{darker, brighter, joinExtremes, extremesOf, tallyOf}
 use Rattle.average.specs.loops.Sums.{total, raisedSteps}
-use Rattle.average.proofs.Laws.{raised-most, sum-is}
+use Rattle.average.proofs.Laws.{raised-most, sum-is, by-code}
 use Rattle.body.specs.Luminances.{ifLit, luminancesOf}
 use Rattle.body.specs.loops.Indices.{indexList}
 use Rattle.body.specs.loops.Tallying.{stepsAt, unlitAt, lowest, fromDarkest, fromBrightest, extremesAt, tallyFrom}
@@ -87,9 +86,9 @@ module _ (f : ℕ → ℕ) (last : f 0 ≡ 65535) where
 pub mantissa-at : (i : ℕ) → IsMantissa (storedAt i .mantissa)
 mantissa-at i = record { least = omega arith; most = omega arith }
 
--- a worth, as it is compared
-abbrev weight : (i : ℕ) → ℕ
-weight i = storedWorth (storedAt i) .num * unit
+-- 256E + M of the luminance at an index
+abbrev codeAt : (i : ℕ) → ℕ
+codeAt i = 256 * storedAt i .exponent + storedAt i .mantissa
 
 pub record IsPlace (i : ℕ) : Type 0 where
   pub least : 128 ≤ i
@@ -97,17 +96,11 @@ pub record IsPlace (i : ℕ) : Type 0 where
 
 module _ (i j : ℕ) (p : IsPlace i) (q : IsPlace j) where
   index-order : atMost (storedWorth (storedAt i)) (storedWorth (storedAt j)) ≡ leb i j
-  index-order = by (leb i j) refl
+  index-order = sym (by-code (storedAt i) (storedAt j) (mantissa-at i) (mantissa-at j)) ∙ by (leb i j) refl
     where
-      by : (b : Bool) → leb i j ≡ b → atMost (storedWorth (storedAt i)) (storedWorth (storedAt j)) ≡ b
-      by true e =
-          ⊎-elim
-          (λ s.
-          subst (λ (k : ℕ). atMost (storedWorth (storedAt i)) (storedWorth (storedAt k)) ≡ true) s
-          (le-leb (weight i) (weight i) (le-refl (weight i))))
-          (λ l. le-leb _ _ (le-of-lt (code-order _ _ _ _ (mantissa-at i) (mantissa-at j) .0 (omega arith) .cross)))
-          (eq-or-lt-of-le (leb-true i j e))
-      by false e = lt-leb _ _ (code-order _ _ _ _ (mantissa-at j) (mantissa-at i) .0 (omega (arith, leb-false i j e)) .cross)
+      by : (b : Bool) → leb i j ≡ b → leb (codeAt i) (codeAt j) ≡ b
+      by true e = le-leb (codeAt i) (codeAt j) (omega (arith, leb-true i j e))
+      by false e = lt-leb (codeAt i) (codeAt j) (omega (arith, leb-false i j e))
 
   darker-at : darker (storedAt i) (storedAt j) ≡ storedAt (min i j)
   darker-at = rw index-order (by (leb i j) refl)

@@ -5,7 +5,7 @@ ghost use Rattle.answers.specs.Answers.{headerAnswer, tallyAnswer, Reports};
 ghost use Rattle.answers.specs.Claims.{TallyBound, MapBound};
 ghost use Rattle.bands.specs.Checks.{readBands, checkMapBands};
 ghost use Rattle.bands.specs.Cutting.{tallStrip};
-ghost use Rattle.bands.specs.Joining.{tallyBands, rowLevels};
+ghost use Rattle.bands.specs.Joining.{tallyBands, joinedLevels};
 use answers::headers::HeaderAnswer;
 use answers::headers::header_answer;
 use answers::tallies::TallyAnswer;
@@ -36,7 +36,7 @@ pub extern "C" fn dofnihet_tally_of_bands(bands: &[u32]) -> TallyAnswer
 // Three level bytes for each pixel of all bands; a refusal leaves the output as it was.
 #[no_mangle]
 pub extern "C" fn dofnihet_map_bands(bands: &[u32], output: &mut [u8]) -> Outcome
-    ensures answer { λ r. ⌜ Reports (checkMapBands (now (bands .entry)) (length (now (output .entry)))) (rowLevels (now (bands .entry))) (now (output .entry)) r (now (output .exit)) ⌝ }
+    ensures answer { λ r. ⌜ Reports (checkMapBands (now (bands .entry)) (length (now (output .entry)))) (joinedLevels (now (bands .entry))) (now (output .entry)) r (now (output .exit)) ⌝ }
     ensures bound { λ r. ⌜ MapBound (tallStrip (now (bands .entry))) r (now (output .exit)) ⌝ }
 {
     report(map(bands, output))

@@ -2,10 +2,10 @@
 use Prim.Native.Nat.{ℕ, zero, suc, _+_, _<_}
 use mathlib.Core.Path.{_≡_, sym, subst}
 use mathlib.Core.Logic.{⊎-elim}
-use mathlib.Core.List.{List, [], _∷_}
+use mathlib.Core.List.{List, [], _∷_, _++_}
 use native.Mathlib.Omega.{arith}
 use borrow.Author.Count.{below-more}
-use lib.ListN.{length, getD, set, take, length-set}
+use lib.ListN.{length, getD, set, take, drop, length-set}
 use lib.Seq.{getD-set-same, getD-set-other}
 use Rattle.number.specs.Lists.{Every, Occurs}
 
@@ -27,6 +27,15 @@ module _ {X : Type 0} where
   every-take P zero xs h = tt
   every-take P (suc n) [] h = tt
   every-take P (suc n) (x ∷ xs) h = (h .0, every-take P n xs (h .1))
+
+  pub every-drop : (P : X → Type 0) (n : ℕ) (xs : List X) → Every P xs → Every P (drop n xs)
+  every-drop P zero xs h = h
+  every-drop P (suc n) [] h = tt
+  every-drop P (suc n) (x ∷ xs) h = every-drop P n xs (h .1)
+
+  pub every-append : (P : X → Type 0) (xs ys : List X) → Every P xs → Every P ys → Every P (xs ++ ys)
+  every-append P [] ys h g = g
+  every-append P (x ∷ xs) ys h g = (h .0, every-append P xs ys (h .1) g)
 
 -- ---- a table that is filled entry by entry
 

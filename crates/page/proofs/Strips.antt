@@ -4,7 +4,7 @@ use mathlib.Core.Path.{_≡_, _∙_}
 use mathlib.Core.List.{List, [], _∷_}
 use native.Mathlib.Omega.{arith}
 use lib.IntN.{ℤ}
-use lib.ListN.{length, getD, replicate, length-replicate}
+use lib.ListN.{length, getD, length-replicate}
 use mir.Syntax.{w64}
 use mir.Val.{toZ, ofZ}
 use mir.Facts.{toZ-ofZ}
@@ -33,12 +33,12 @@ use Rattle.average.specs.declared.tally.Tally.{Tally}
 use Rattle.average.specs.Averages.{averageOf}
 use Rattle.average.specs.Tallies.{sumOf, tallyOf}
 use Rattle.average.specs.loops.Sums.{IsSum, HasAverage}
-use Rattle.average.proofs.Laws.{tally-is-sum, sum-fits, sum-has-average, reported-range}
+use Rattle.average.proofs.Laws.{tally-is-sum, sum-fits, sum-has-average, absent, reported-range}
 use Rattle.tone.specs.Levels.{IsTone}
 use Rattle.body.specs.Levels.{levelsUnder}
 use Rattle.body.specs.loops.Indices.{IsBody, indicesOf, HoldsIndices}
 use Rattle.body.proofs.Laws as body
-use Rattle.body.proofs.Laws.{pixels-valid, luminances-few, every-luminance, indices-held}
+use Rattle.body.proofs.Laws.{pixels-valid, luminances-few, every-luminance, indices-held, dark-indices}
 use Rattle.page.specs.Tallying.{stripLuminances, stripAverage}
 use Rattle.page.specs.Mapping.{toneOf, pageLevels, stripLevels}
 
@@ -88,9 +88,9 @@ module _ (s : List ℕ) (ok : Whole s) where
       let q = key-limits _ (ok .head .key-fits) in
       record { key = record { least = q .least; most = q .most }; average = reported-range _ _ strip-sum e }
 
-  -- its levels
-  pub levels-absent : {n : ℕ} → stripAverage s ≡ Absent → n ≡ pixels (headerFields s) → replicate (3 * n) 0 ≡ stripLevels s
-  levels-absent e f = rw (e, f, count-pixels s ok)
+  -- its levels; without a lit pixel they are the indices
+  pub levels-absent : stripAverage s ≡ Absent → indicesOf (stripPixels s) ≡ stripLevels s
+  levels-absent e = dark-indices (stripPixels s) (absent _ _ e) ∙ rw e
 
   pub levels-present : {A : ℤ} {a : Stored} → stripAverage s ≡ Present A a
       → levelsUnder (toneOf (headerFields s) a) (stripPixels s) ≡ stripLevels s

@@ -1,8 +1,7 @@
 // A page mapped to levels.
 ghost use mathlib.Core.Path.{_≡_};
-ghost use Prim.Native.Nat.{_≤_};
-ghost use lib.ListN.{length, replicate};
-ghost use Rattle.refusal.specs.Output.{onto, after};
+ghost use lib.ListN.{length};
+ghost use Rattle.refusal.specs.Output.{after};
 ghost use Rattle.page.specs.Checks.{checkMap};
 ghost use Rattle.page.specs.Mapping.{toneOf, stripLevels};
 ghost use Rattle.page.specs.Claims.{MapPromise};
@@ -18,7 +17,6 @@ use strip::read::body;
 use strip::read::header_fields;
 use tone::tone::Tone;
 use word::header::Header;
-use word::header::pixel_count;
 
 // What a page is mapped under: its key, and an average.
 pub fn tone_of(header: Header, average: Stored) -> Tone
@@ -27,18 +25,6 @@ pub fn tone_of(header: Header, average: Stored) -> Tone
     Tone {
         key: header.key,
         average: average,
-    }
-}
-
-// Level 0 in the first `count` bytes of the output.
-pub fn clear_levels(count: usize, output: &mut [u8])
-    requires { ⌜ count ≤ length (now output) ⌝ }
-    ensures { λ _. ⌜ now (output .exit) ≡ onto (replicate count 0) (now (output .entry)) ⌝ }
-{
-    let mut i: usize = 0;
-    while i < count {
-        output[i] = 0;
-        i += 1;
     }
 }
 
@@ -54,8 +40,8 @@ pub fn map(strip: &[u32], output: &mut [u8]) -> Verdict
         return verdict;
     };
     let tally = tally_keeping(body(strip), output);
+    // Where no pixel is lit, the indices are zeros, and so are the levels.
     let Average::Present(_, average) = average_of(tally.count, tally.sum) else {
-        clear_levels(3 * pixel_count(strip[0]), output);
         return Verdict::Accepted;
     };
     map_levels(body(strip), tone_of(header_fields(strip), average), output);

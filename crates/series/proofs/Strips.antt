@@ -1,13 +1,12 @@
 -- Laws of the strips of a row. Assumes nothing.
 use Prim.Native.Nat.{ℕ, zero, suc, _+_, _-_, _*_, _^_, _≤_, _<_, min}
-use mathlib.Core.Path.{_≡_, refl, ap, ap₂, _∙_}
+use mathlib.Core.Path.{_≡_, refl, ap, _∙_}
 use mathlib.Core.List.{List, [], _∷_, _++_}
 use native.Mathlib.Omega.{arith}
 use lib.ListN.{length, take, drop, length-take, length-drop, length-append, drop-of-length-le}
-use lib.Seq.{drop-drop, drop-nil, take-nil, take-all, take-at, drop-at, getD-take}
+use lib.Seq.{drop-drop, drop-nil, take-nil, take-all, take-at, drop-at}
 use Rattle.refusal.specs.declared.Verdict.{Verdict}
 use Rattle.refusal.specs.declared.Verdict.the-variants.{Accepted, Refused}
-use Rattle.word.specs.Fields.{widthIn, heightIn, low16}
 use Rattle.word.specs.Words.{stripLength}
 use Rattle.word.proofs.Limits.{pixels-small}
 use Rattle.strip.specs.Checks.{wordAt, headerFields, declaredLength, checkStrip}
@@ -17,7 +16,7 @@ use Rattle.series.specs.loops.Walks.{seriesFrom, PlacesFit}
 
 -- ---- the strip at the front of some words
 
-front-length : (ws : List ℕ) → length (frontStrip ws) ≡ min (declaredLength ws) (length ws)
+pub front-length : (ws : List ℕ) → length (frontStrip ws) ≡ min (declaredLength ws) (length ws)
 front-length ws = length-take (declaredLength ws) ws
 
 -- words that belong to the strip before are passed over
@@ -73,17 +72,21 @@ module _ (r : List ℕ) (i : ℕ) where
       let m = front-length (drop i r) in
       (omega arith, omega arith)
 
-  -- as the code takes it out of the row
-  pub strip-part : let f = min i (length r) in
-      take (f + min (declaredLength (take (length r - f) (drop f r))) (length r - f) - f) (drop f r) ≡ stripAt r i
-  strip-part =
-      let f = min i (length r) in
-      let n = declaredLength (drop f r) in
-      let long = length-drop f r in
-      let all : take (length r - f) (drop f r) ≡ drop f r = take-all (length r - f) (drop f r) (omega arith) in
-      let e : f + min n (length r - f) - f ≡ min n (length (drop f r)) = omega arith in
-      ap (λ ws. take (f + min (declaredLength ws) (length r - f) - f) (drop f r)) all
-      ∙ ap (λ k. take k (drop f r)) e ∙ take-min n (drop f r) ∙ ap frontStrip (drop-min i r)
+  -- as the code takes it out of the row: `count` is worked out from all that lies behind the index
+  module _ {count : ℕ} (h : i ≤ length r) (e : count ≡ length (frontStrip (take (length r - i) (drop i r)))) where
+    counted : count ≡ min (declaredLength (drop i r)) (length (drop i r))
+    counted =
+        let n = length-drop i r in
+        let rest = take-all (length r - i) (drop i r) (omega arith) in
+        e ∙ ap (λ ws. length (frontStrip ws)) rest ∙ front-length (drop i r)
+
+    pub front-within : i + count ≤ length r
+    front-within = omega (arith, counted, length-drop i r)
+
+    pub strip-part : take (i + count - i) (drop i r) ≡ stripAt r i
+    strip-part =
+        let same : i + count - i ≡ min (declaredLength (drop i r)) (length (drop i r)) = omega (arith, counted) in
+        ap (λ k. take k (drop i r)) same ∙ take-min (declaredLength (drop i r)) (drop i r)
 
   -- no place overflows: a refused strip names a word up to where its end word should stand
   pub places-fit : i ≤ length r → length r * 4 < 2 ^ 63 → PlacesFit i (checkStrip (stripAt r i))
@@ -113,12 +116,6 @@ module _ (s rest : List ℕ) (long : length s ≡ declaredLength s) where
       let front : frontStrip (s ++ rest) ≡ s =
       ap (λ h. take (stripLength h) (s ++ rest)) front-same ∙ take-at s rest (declaredLength s) long in
       front-next i (s ++ rest) some ∙ rw (front, drop-at s rest (length s) refl)
-
--- the header at the front of a row is its first strip's
-pub series-first : (ws : List ℕ) → headerFields (frontStrip ws) ≡ headerFields ws
-series-first ws =
-    ap₂ (λ (size key : ℕ). record { width = widthIn size; height = heightIn size; key = low16 key })
-    (getD-take (declaredLength ws) ws 0 0 (omega arith)) (getD-take (declaredLength ws) ws 1 0 (omega arith))
 
 -- ---- the check of a strip where it stands
 

@@ -2,20 +2,31 @@
 ghost use mathlib.Core.Path.{_≡_};
 ghost use Prim.Native.Nat.{_≤_};
 ghost use lib.ListN.{length};
-ghost use Rattle.series.specs.Series.{movedBy, checkStanding, stripAt, standingAt};
+ghost use Rattle.series.specs.Series.{frontStrip, movedBy, checkStanding, stripAt, standingAt};
 ghost use Rattle.series.specs.loops.Walks.{PlacesFit};
 use refusal::Verdict;
 use strip::check::check;
 use strip::read::declared_length;
-use strip::read::within;
 
-// The strip that begins at an index of a row: as many words as its size word declares, or as the row has left.
+// How many words the strip at the front of a row has: as many as it declares, or as there are.
+fn front_length(row: &[u32]) -> usize
+    ensures { λ r. ⌜ r ≡ length (frontStrip (now (row .entry))) ⌝ }
+{
+    let declared = declared_length(row);
+    if declared < row.len() {
+        declared
+    } else {
+        row.len()
+    }
+}
+
+// The strip that begins at an index of a row.
 pub fn strip_at(row: &[u32], start: usize) -> &[u32]
+    requires { ⌜ start ≤ length (now row) ⌝ }
     ensures { λ r. ⌜ now r ≡ stripAt (now (row .entry)) start ⌝ }
 {
-    let from = within(start, row.len());
-    let end = from + within(declared_length(&row[from..]), row.len() - from);
-    &row[from..end]
+    let count = front_length(&row[start..]);
+    &row[start..start + count]
 }
 
 // A verdict on a strip that begins at an index of a row, its places counted from the row's start.

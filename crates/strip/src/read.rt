@@ -56,7 +56,7 @@ pub fn declared_length(row: &[u32]) -> usize
 }
 
 // An index, but not beyond the end of a row of so many words.
-pub fn within(i: usize, length: usize) -> usize
+fn within(i: usize, length: usize) -> usize
     ensures { λ r. ⌜ r ≡ min i length ⌝ }
 {
     if i < length { i } else { length }

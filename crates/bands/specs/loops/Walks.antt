@@ -9,9 +9,9 @@ use Rattle.body.specs.loops.Indices.{indicesOf}
 use Rattle.series.specs.Series.{Standing, seriesOf}
 
 -- the pixels of bands, one after another
-abbrev pub rowPixels : List Standing → List Pixel
-rowPixels bs = flatMap (λ b. stripPixels (b .strip)) bs
+abbrev pub joinedPixels : List Standing → List Pixel
+joinedPixels bs = flatMap (λ b. stripPixels (b .strip)) bs
 
 -- the front of the output has the indices of the pixels of all bands
-pub record HoldsRow (r output : List ℕ) : Type 0 where
-  pub front : onto (indicesOf (rowPixels (seriesOf r))) output ≡ output
+pub record HoldsAll (r output : List ℕ) : Type 0 where
+  pub front : onto (indicesOf (joinedPixels (seriesOf r))) output ≡ output

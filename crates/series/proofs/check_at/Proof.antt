@@ -17,4 +17,4 @@ unfolding checkStanding
 returns c = simp (c .moved-by .ensures, c .before .check .ensures .0, c .before .before .strip-at .ensures)
 
 pub check-at-spec : {M : Type 1} → statement M
-check-at-spec = tie.close (tie.spec (λ c κs. search needs) (λ c κs. search needs) moved-by-requires returns)
+check-at-spec = tie.close (tie.spec (λ c κs. c .before .pre) (λ c κs. search needs) moved-by-requires returns)

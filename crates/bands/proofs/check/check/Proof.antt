@@ -4,18 +4,16 @@ use Prim.Native.Nat.{_-_, _≤_}
 use mathlib.Core.Path.{_≡_, _∙_}
 use native.Mathlib.Omega.{arith}
 use lib.ListN.{length}
-use Rattle.refusal.specs.Verdicts.{reportOf}
-use Rattle.refusal.proofs.Laws.{also}
 use Rattle.strip.specs.Checks.{headerFields}
 use Rattle.bands.proofs.Checking.{ahead, checked-empty, checked-each, Checking, checking-all, checking-next, checking-refused, checking-done}
 use Rattle.bands.proofs.check.check.Statement.{statement}
 use Rattle.bands.proofs.check.check.Tie as tie
 
 abbrev Inv-loop : tie.InvT-loop
-Inv-loop row first rows₀ i₀ rows i = (first ≡ headerFields row) × (1 ≤ length row) × Checking row first rows i
+Inv-loop row first above₀ i₀ above i = (first ≡ headerFields row) × (1 ≤ length row) × Checking row first above i
 
 abbrev μ-loop : tie.MeasureT-loop
-μ-loop row first rows₀ i₀ rows i = length row - i
+μ-loop row first above₀ i₀ above i = length row - i
 
 loop-holds : tie.Need-loop-holds Inv-loop μ-loop
 loop-holds c = (c .header-fields .ensures, c .before .if1 .left, checking-all _ _)

@@ -3,8 +3,6 @@ use borrow.Author.Needs.{needs}
 use mathlib.Core.Path.{_≡_, sym, _∙_}
 use denote.Ref.{now}
 use Rattle.refusal.specs.declared.Verdict.the-variants.{Accepted}
-use Rattle.refusal.specs.Verdicts.{reportOf}
-use Rattle.refusal.proofs.Laws.{also}
 use Rattle.bands.specs.Checks.{checkBands}
 use Rattle.bands.proofs.Checking.{map-refused, map-small, map-fits}
 use Rattle.bands.proofs.check.check_map.Statement.{statement}

@@ -11,7 +11,7 @@ returns c =
     let h = c .before in
     let v = h .before in
     also headerTold
-    (simp (c .joined-rows .ensures, h .header-fields .ensures, sym (v .before .before .check .ensures), v .enum-told .given .1))
+    (simp (c .joined-height .ensures, h .header-fields .ensures, sym (v .before .before .check .ensures), v .enum-told .given .1))
 
 pub header-spec : {M : Type 1} → statement M
 header-spec =

@@ -6,12 +6,12 @@ use Rattle.bands.proofs.Checking.{few-joined}
 use Rattle.bands.proofs.check.level_bytes.Statement.{statement}
 use Rattle.bands.proofs.check.level_bytes.Tie as tie
 
-few : (c : tie.After-joined-rows) → c .before .header-fields .result .width * c .joined-rows .result ≤ 16777216
-few c = rw (c .joined-rows .ensures, c .before .header-fields .ensures) (few-joined _ (c .before .before .before .pre))
+few : (c : tie.After-joined-height) → c .before .header-fields .result .width * c .joined-height .result ≤ 16777216
+few c = rw (c .joined-height .ensures, c .before .header-fields .ensures) (few-joined _ (c .before .before .before .pre))
 
 pub level-bytes-spec : {M : Type 1} → statement M
 level-bytes-spec =
     tie.close
     (tie.spec
     (λ c κs. search needs) (λ c κs. search needs) (λ c. omega (arith, few c)) (λ c. omega (arith, few c))
-    (λ c. rw (c .joined-rows .ensures, c .before .header-fields .ensures)))
+    (λ c. rw (c .joined-height .ensures, c .before .header-fields .ensures)))

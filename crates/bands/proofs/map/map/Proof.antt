@@ -1,7 +1,6 @@
 -- `bands::map::map` meets its contract: a refusal comes before the first store. Assumes nothing.
 use borrow.Author.Needs.{needs}
 use mathlib.Core.Path.{_≡_, sym, _∙_}
-use native.Mathlib.Omega.{arith}
 use lib.ListN.{length}
 use denote.Ref.{now}
 use Rattle.series.specs.Series.{seriesOf}
@@ -23,23 +22,13 @@ average c =
     let k = c .before .before .before .before in
     joined-average _ (limits (k .before .before) .bands) (k .keep-tallies .ensures .0) (c .average-of .ensures .0)
 
-clear-levels-requires : tie.Need-clear-levels-requires
-clear-levels-requires c κs =
-    let b = c .before in
-    let k = b .before .before .before .before .before .before .before in
-    omega (arith, b .level-bytes .ensures, limits (k .before .before) .fits)
-
 returns-2 : tie.Need-returns-2
 returns-2 c =
-    let l = c .before .before in
-    let b = l .before .before in
-    let n = b .before in
-    let a = n .before .before in
+    let a = c .before .before in
     let k = a .before .before .before .before in
     let e = k .before .before in
-    let ok = limits e in
     filled _ _ _ (sym (sym (e .before .before .check-map .ensures) ∙ e .enum-told .given .1))
-    (black-left _ (ok .bands) _ (k .keep-tallies .ensures .1) (sym (average a) ∙ n .enum-told3 .given .1) (b .level-bytes .ensures) (l .clear-levels .ensures))
+    (black-left _ (limits e .bands) _ (k .keep-tallies .ensures .1) (sym (average a) ∙ c .enum-told3 .given .1))
 
 map-each-requires : tie.Need-map-each-requires
 map-each-requires c κs =
@@ -74,6 +63,5 @@ map-spec =
     (λ c. left-alone _ _ (c .before .before .check-map .ensures) (c .enum-told2 .given .1))
     (λ c κs. let ok = limits (c .before) in (ok .bands, ok .fits))
     (λ c κs. let k = c .before .before .before in joined-has-average _ (limits (k .before .before) .bands) (k .keep-tallies .ensures .0))
-    (λ c. search needs) (λ c. search needs)
-    (λ c κs. limits (c .before .before .before .before .before .before .before .before) .bands) clear-levels-requires (λ c. search needs)
-    returns-2 (λ c κs. search needs) (λ c κs. search needs) map-each-requires (λ c. search needs) returns-3)
+    (λ c. search needs) (λ c. search needs) (λ c. search needs) returns-2 (λ c κs. search needs) (λ c κs. search needs) map-each-requires
+    (λ c. search needs) returns-3)

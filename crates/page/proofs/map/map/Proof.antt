@@ -1,6 +1,6 @@
 -- `page::map::map` meets its contract: a refusal comes before the first store. Assumes nothing.
 use borrow.Author.Needs.{needs}
-use mathlib.Core.Path.{_≡_, sym, _∙_}
+use mathlib.Core.Path.{_≡_, sym, ap, _∙_}
 use native.Mathlib.Omega.{arith}
 use lib.ListN.{length}
 use denote.Ref.{now}
@@ -58,25 +58,14 @@ average c =
     let t = c .before .before .before .before in
     average-is _ (limits (t .before .before .before) .strip) _ (told t .0) (c .average-of .ensures .0)
 
-clear-levels-requires : tie.Need-clear-levels-requires
-clear-levels-requires c κs =
-    let p = c .before in
-    let e = p .before .before .before .before .before .before .before .before .before .before .before in
-    omega (arith, p .pixel-count .ensures, limits e .fits)
-
 returns-2 : tie.Need-returns-2
 returns-2 c =
-    let l = c .before .before in
-    let p = l .before .before in
-    let n = p .before .before in
-    let a = n .before .before in
+    let a = c .before .before in
     let t = a .before .before .before .before in
     let e = t .before .before .before in
     let args = e .before .before .before .before .before .args in
-    let none = sym (average a) ∙ n .enum-told3 .given .1 in
-    let zeros = levels-absent _ (limits e .strip) none (p .pixel-count .ensures) in
-    filled _ (now (args .output)) _ (sym (ok e))
-    ((rw zeros at (l .clear-levels .ensures)) ∙ over-indices _ (limits e .strip) _ (told t .1))
+    let none = sym (average a) ∙ c .enum-told3 .given .1 in
+    filled _ (now (args .output)) _ (sym (ok e)) (told t .1 ∙ ap (λ levels. onto levels (now (args .output))) (levels-absent _ (limits e .strip) none))
 
 map-levels-requires : tie.Need-map-levels-requires
 map-levels-requires c κs =
@@ -113,8 +102,5 @@ map-spec =
     tie.close
     (tie.spec
     (λ c κs. search needs) (λ c. search needs) (λ c. search needs) returns (λ c κs. search needs) tally-keeping-requires
-    average-of-requires (λ c. search needs) (λ c. search needs)
-    (λ c. omega (arith, limits (c .before .before .before .before .before .before .before .before .before .before) .strip .head .long)) (λ c κs. search needs)
-    (λ c. omega (arith, c .pixel-count .ensures, limits (c .before .before .before .before .before .before .before .before .before .before .before) .fits))
-    clear-levels-requires (λ c. search needs) returns-2 (λ c κs. search needs)
-    (λ c κs. search needs) (λ c κs. search needs) map-levels-requires (λ c. search needs) returns-3)
+    average-of-requires (λ c. search needs) (λ c. search needs) (λ c. search needs) returns-2 (λ c κs. search needs) (λ c κs. search needs)
+    (λ c κs. search needs) map-levels-requires (λ c. search needs) returns-3)

@@ -1,17 +1,17 @@
--- `bands::check::joined_rows` meets its contract: at each turn the rows that are left make up all. Assumes nothing.
+-- `bands::check::joined_height` meets its contract: at each turn the rows that are left make up all. Assumes nothing.
 use borrow.Author.Needs.{needs}
 use Prim.Native.Nat.{_-_}
 use native.Mathlib.Omega.{arith}
 use lib.ListN.{length}
 use Rattle.bands.proofs.Checking.{ahead, Counting, counting-all, counting-next, counting-done, few-rows}
-use Rattle.bands.proofs.check.joined_rows.Statement.{statement}
-use Rattle.bands.proofs.check.joined_rows.Tie as tie
+use Rattle.bands.proofs.check.joined_height.Statement.{statement}
+use Rattle.bands.proofs.check.joined_height.Tie as tie
 
 abbrev Inv-loop : tie.InvT-loop
-Inv-loop row rows₀ i₀ rows i = Counting row rows i
+Inv-loop row height₀ i₀ height i = Counting row height i
 
 abbrev μ-loop : tie.MeasureT-loop
-μ-loop row rows₀ i₀ rows i = length row - i
+μ-loop row height₀ i₀ height i = length row - i
 
 loop-again : tie.Need-loop-again Inv-loop μ-loop
 loop-again c =
@@ -20,8 +20,8 @@ loop-again c =
     let t = s .before in
     rw (h .header-fields .ensures) (counting-next _ (t .before .loop .inv) (t .loop-test .taken) (s .strip-at .ensures))
 
-add-rows : tie.Need-add-rows Inv-loop μ-loop
-add-rows c = omega (arith, few-rows _ (c .before .before .before .before .before .before .pre), loop-again c .same)
+add-height : tie.Need-add-height Inv-loop μ-loop
+add-height c = omega (arith, few-rows _ (c .before .before .before .before .before .before .pre), loop-again c .same)
 
 loop-less : tie.Need-loop-less Inv-loop μ-loop
 loop-less c =
@@ -30,10 +30,10 @@ loop-less c =
     let more = ahead _ (t .loop-test .taken) (s .strip-at .ensures) in
     omega (arith, more .0, more .1)
 
-pub joined-rows-spec : {M : Type 1} → statement M
-joined-rows-spec =
+pub joined-height-spec : {M : Type 1} → statement M
+joined-height-spec =
     tie.close
     (tie.spec
-    Inv-loop μ-loop (λ c. counting-all _) (λ c κs. search needs) (λ c κs. search needs) add-rows
+    Inv-loop μ-loop (λ c. counting-all _) (λ c κs. search needs) (λ c κs. search needs) add-height
     (λ c. omega (arith, loop-again c .within, c .before .before .before .before .before .before .good .0)) loop-less loop-again
     (λ c. counting-done _ (c .before .loop .inv) (c .loop-test .left)))
