@@ -3,19 +3,21 @@
  * Link with libdofnihet.a, which `rt staticlib dofnihet` writes to target/staticlib/. What each call answers is proved for every input; the
  * contracts stand in crates/dofnihet/src.
  *
- * Every slice is a pointer and the number of its elements. The pointer is never NULL, not even where the number is 0, and is aligned for its
- * element. The slices of one call must not overlap. Sources, strips and bands are only read; an output is written only where the call accepts, and
- * then only in its front. No call keeps a pointer, allocates, or changes anything else, so calls on different memory may run at once.
+ * Every slice is a pointer and the number of its elements. The pointer is never NULL, not even where the number is 0, and is aligned for
+ * its element. The slices of one call must not overlap. Sources, strips and bands are only read; an output is written only where the call
+ * accepts, and then only in its front. No call keeps a pointer, allocates, or changes anything else, so calls on different memory may run
+ * at once.
  *
- * Bands are strips of one width and one key, one behind another in one row of words: whole rows of one tall page, the top band first. Each
- * size word tells where the next band begins. Calls on bands answer for the tall page, however it is cut.
+ * Bands are strips of one width and one key, one behind another in one slice, nothing between or behind them: whole rows of one tall page,
+ * the top band first. Each size word tells where the next band begins; words left over are checked as a band. One strip is one band. Calls
+ * on bands answer for the tall page, however it is cut.
  *
  * `number` is 0 where a call accepts; `place` is 0 then. A refusal has a number and a place: the index of the offending element or word for
- * 5 to 8, else 0. In bands it is the word's index in the whole row.
+ * 5 to 8, else 0. In bands a word's index counts from the slice's first word.
  *
  *     1  bad size        width or height 0 or above 8192, or more than 16777216 pixels
  *     2  bad key         key 0 or above 1000
- *     3  wrong length    source or strip not of its exact length; no band, or a last one that is cut
+ *     3  wrong length    source or strip not of its exact length; no band, or the last one cut short
  *     4  small tray      output shorter than the outcome
  *     5  no number       NaN or infinity
  *     6  too bright      channel above 2^56
@@ -155,7 +157,8 @@ dofnihet_tally dofnihet_tally_of(const uint32_t *strip, size_t strip_len);
 
 /* Reads back width and key of bands, and the height of all together.
  * A refusal has 0 in all three.
- * Refuses, band by band, as dofnihet_check does, a band that the row cuts short with 3, then with 21. */
+ * Refuses with 3 where there is no band; then, band by band, as dofnihet_check does (3 for a band that the slice cuts short), with 21
+ * behind each band's own checks. */
 dofnihet_header dofnihet_header_of_bands(const uint32_t *bands, size_t bands_len);
 
 /* Tallies bands: the tally of the tall page.
@@ -165,7 +168,7 @@ dofnihet_tally dofnihet_tally_of_bands(const uint32_t *bands, size_t bands_len);
 
 /* Maps bands to levels, under the average of all: the levels of the tall page.
  * They are left in the output's front, three bytes for each pixel of all bands; all are 0 where no pixel is lit.
- * Refuses as dofnihet_header_of_bands does, with 4 last of all. */
+ * Refuses as dofnihet_header_of_bands does, with 4 last. */
 dofnihet_outcome dofnihet_map_bands(const uint32_t *bands, size_t bands_len, uint8_t *output, size_t output_len);
 
 /* Writes what stands before the levels in a Netpbm P6 picture: "P6", width, height, "255".

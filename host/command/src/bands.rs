@@ -7,8 +7,8 @@ use dofnihet::{Refusal, MAX_PIXELS, MAX_SIDE};
 use std::ffi::{OsStr, OsString};
 use std::io::{self, Read};
 
-/// The most words to keep. An accepted row has no more than three words a pixel and three a band, and each band has a row of the page. Behind
-/// it the library looks at one strip more at most, which it refuses.
+/// The most words to keep. An accepted row has no more than three words a pixel and three a band, and each band has a row of the page.
+/// Behind it the library looks at one strip more at most, which it refuses.
 const LONGEST: usize = (3 * MAX_PIXELS + 3 * MAX_SIDE) + (3 * MAX_PIXELS + 3);
 
 pub struct Bands {
@@ -59,7 +59,8 @@ impl Bands {
         format!("{} word {}", name(&self.files[at].path), place - start)
     }
 
-    /// The first file with which the row so far is refused. Once refused, a row of whole bands stays so however many follow.
+    /// The first file with which the row so far is refused. Once refused, a row of whole bands stays so however many follow; where a band
+    /// is split over files, that is not so, and another file may be told.
     fn first_refused(&self) -> &BandFile {
         let accepted = |file: &BandFile| dofnihet::header_of_bands(&self.words[..file.end]).is_ok();
         let last = self.files.len() - 1;

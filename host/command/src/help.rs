@@ -21,15 +21,17 @@ at all, and only where everything is accepted. An output that is standard output
 A strip is read to its end, since its byte count decides first: one whose byte count is no multiple of four is refused with 3,
 place 0, before any word is looked at.
 
-With --bands a page is given as bands of whole rows, the top one first, each a strip with the same width and key. The files are read
-one behind another into one row of words; each size word tells where the next band begins. An empty file is refused with 3 too. A
-place counts from the row's start. Behind the refusal stand the file and, where it has a place, the word in that file, from 0 on:
+With --bands a page is given as bands of whole rows, the top one first, each a strip with the same width and key. A file has whole
+bands, one or more. The files' words are read one behind another; each size word tells where the next band begins. An empty file is
+refused with 3 too. A place counts from the first file's start. Behind the refusal stand the file and, where it has a place, the word in
+that file, from 0 on:
 
     refused 8 24 wild channel: b.strip word 6
     refused 21 0 unlike bands: b.strip
 
 21 is a width or key unlike the first band's, or bands that are too large together. A strip that is cut short takes the words of the
-next file for its own, so that word 0 of that file is foreign; where the row ends before the strip does, it is refused with 3.
+next file for its own, so that word 0 of that file is foreign. Where the last file ends before the strip does, it is refused with 3,
+unless that word 0 stands in the place of its key word.
 
 Exit status: 0 accepted; 1 refused, with a line such as 'refused 3 0 wrong length' (number, place, word) on standard error;
 2 wrong usage, a file that cannot be read or written, or no PFM file.

@@ -3,7 +3,8 @@
 //! Peak memory of a page, beside the program and its buffers, which are 2 MiB: `convert` holds source and strip, 12 + 4 (RGBE), 6 (half,
 //! stored) or 12 (single, PFM) bytes a pixel; `map` holds strip and levels, 12 + 3 bytes a pixel; `cut` holds strip and channels, 12 + 6
 //! bytes a pixel; the other commands hold the strip. Bands take what their page's strip takes, and twelve bytes a band.
-//! Measured on 16,777,216 pixels: 258, 290 and 386 MiB for `convert`, 242 MiB for `map`, 290 MiB for `cut`, 194 MiB for the others.
+//! Measured on 16,777,216 pixels: 258, 290 and 386 MiB for `convert`, 242 MiB for `map`, 290 MiB for `cut`, 194 MiB for the others;
+//! with the page in bands, 128 files, the same to a MiB.
 //! Files with more words than any accepted bands have take 386 MiB, however long they are.
 
 mod arguments;

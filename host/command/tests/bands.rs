@@ -131,7 +131,8 @@ fn the_last_file_is_cut() {
     );
 }
 
-/// A band goes on in the next file, where its word is foreign, unless all files together are too short for it.
+/// A band goes on in the next file, where its word is foreign, unless all files together are too short for it. The key word is checked
+/// before that.
 #[test]
 fn another_file_is_cut() {
     for count in 1..6 {
@@ -140,6 +141,7 @@ fn another_file_is_cut() {
     }
     refused_words("cut_shorter", &[&STRIP[..3], &TOP], "refused 7 3 foreign word: b word 0");
     refused_words("cut_too_short", &[&STRIP[..2], &TOP], "refused 3 0 wrong length: a");
+    refused_words("cut_to_size", &[&STRIP[..1], &TOP], "refused 7 1 foreign word: b word 0");
     let line = "refused 7 12 foreign word: b word 6";
     refused_words("words_over", &[&TOP, &[&BOTTOM[..], &[0, 0]].concat(), &TOP], line);
 }

@@ -202,17 +202,18 @@ fn tally_told(told: raw::Tally) -> Result<Tally, Refusal> {
     accepted(told.number, told.place, tally)
 }
 
-/// The header of the tall page that bands, strips one behind another in one row, are cut from.
+/// The header of the one tall page that bands are: strips of one width and key, one behind another in one slice, the top one first. A
+/// refusal's place counts from the slice's start.
 pub fn header_of_bands(bands: &[u32]) -> Result<Header, Refusal> {
     header_told(raw::header_of_bands(bands))
 }
 
-/// The tally of the tall page.
+/// The tally of the tall page that bands are ([`header_of_bands`]).
 pub fn tally_of_bands(bands: &[u32]) -> Result<Tally, Refusal> {
     tally_told(raw::tally_of_bands(bands))
 }
 
-/// Leaves the levels of the tall page, three bytes a pixel, in the output's front.
+/// Leaves the levels of the tall page that bands are ([`header_of_bands`]), three bytes a pixel, in the output's front.
 pub fn map_bands(bands: &[u32], output: &mut [u8]) -> Result<(), Refusal> {
     done(raw::map_bands(bands, output))
 }
