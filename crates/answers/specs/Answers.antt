@@ -32,7 +32,7 @@ pub record Reports (verdict : Verdict) (front old : List ℕ) (told : Outcome) (
   pub outcome : told ≡ reportOf verdict
   pub content : new ≡ after verdict front old
 
--- a strip's header, or its refusal
+-- a page's header, or its refusal
 abbrev pub headerAnswer : HeaderOrRefusal → HeaderAnswer
 headerAnswer a =
     let t = headerTold a in
@@ -50,7 +50,7 @@ rowAnswer a =
     let t = rowTold a in
     record { number = t .outcome .number; place = t .outcome .place; start = valueAt t 0; length = valueAt t 1 }
 
--- a strip's tally, or its refusal
+-- a page's tally, or its refusal
 abbrev pub tallyAnswer : TallyOrRefusal → TallyAnswer
 tallyAnswer a =
     let t = tallyTold a in

@@ -13,7 +13,7 @@ pub struct Page {
     pub key: u64,
 }
 
-// A strip's header; a refusal has 0 in width, height and key.
+// A page's header; a refusal has 0 in width, height and key.
 #[repr(C)]
 pub struct HeaderAnswer {
     pub number: u64,
@@ -34,7 +34,7 @@ pub fn page_header(page: Page) -> Header
     }
 }
 
-// A strip's header or its refusal, in numbers.
+// A page's header or its refusal, in numbers.
 pub fn header_answer(answer: HeaderOrRefusal) -> HeaderAnswer
     ensures { λ r. ⌜ r ≡ headerAnswer answer ⌝ }
 {

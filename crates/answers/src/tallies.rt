@@ -51,7 +51,7 @@ fn brightest_of(extremes: Extremes) -> Stored
     }
 }
 
-// A strip's tally with its average or its refusal, in numbers.
+// A page's tally with its average or its refusal, in numbers.
 pub fn tally_answer(answer: TallyOrRefusal) -> TallyAnswer
     ensures { λ r. ⌜ r ≡ tallyAnswer answer ⌝ }
 {
