@@ -21,16 +21,9 @@ module _
       {output : List ℕ}
       (content : output ≡ onto (bytes ps) old)
       {done : ℕ}
-      (at : done ≡ 3 * length ps)
-      (room : 3 * length ps ≤ length old) where
+      (at : done ≡ 3 * length ps) where
     long : length (bytes ps) ≡ done
     long = three ps ∙ sym at
-
-    pub same-room : length output ≡ length old
-    same-room =
-        let n = length-append (bytes ps) (drop (length (bytes ps)) old) in
-        let m = length-drop (length (bytes ps)) old in
-        rw content (omega (arith, n, m, three ps))
 
     behind : drop done output ≡ drop done old
     behind = rw content (drop-at (bytes ps) (drop (length (bytes ps)) old) done long ∙ ap (λ n. drop n old) long)

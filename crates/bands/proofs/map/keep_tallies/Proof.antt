@@ -84,11 +84,8 @@ loop-again c =
     let t = s .before in
     let inv = t .before .loop .inv in
     let h = t .loop-test .taken in
-    let pre = t .before .before .before .before .before .pre in
     let band = s .strip-at .ensures in
     let words = b .body .ensures in
-    let fits = words-room _ (ok b) (inv .walk) h band words in
-    let total = count-all _ (ok b) in
     let long = length-append (inv .passed) (wordPixels (now (b .body .result))) in
     record {
       passed = _;
@@ -96,8 +93,7 @@ loop-again c =
       tally = tally-next _ (ok b) (inv .walk) (inv .tally) h band words (k .tally-keeping .ensures .0) (c .join .ensures);
       at = omega (arith, words-three _ (ok b) (inv .walk) h band words, long, inv .at);
       content =
-          put-next indicesOf indices-append length-indices (inv .passed) _ (inv .content) (inv .at) (omega (arith, fits, total, pre .1)) _
-          (k .tally-keeping .ensures .1);
+          put-next indicesOf indices-append length-indices (inv .passed) _ (inv .content) (inv .at) _ (k .tally-keeping .ensures .1);
       long = search needs;
     }
 

@@ -1,7 +1,7 @@
 -- `bands::map::map_each` meets its contract: at each turn the levels of the bands that were passed stand before the indices of the others.
 -- Assumes nothing.
 use borrow.Author.Needs.{needs}
-use Prim.Native.Nat.{_+_, _-_, _*_, _≤_, _<_}
+use Prim.Native.Nat.{_+_, _-_, _≤_, _<_}
 use mathlib.Core.List.{[], flatMap}
 use mathlib.Core.Path.{refl, ap, _∙_}
 use native.Mathlib.Omega.{arith}
@@ -54,11 +54,6 @@ room c =
     let held = held-room indicesOf indices-append length-indices _ _ (pre .2 .front) in
     (omega (arith, fits, three, held, inv .long, inv .at), omega (arith, fits, three, inv .at, few-pixels _ (ok c)))
 
--- the pixels that were passed have their bytes in the output as it was lent
-enough : (c : tie.After-body Inv-loop μ-loop)
-    → let l = c .before .before .before in 3 * length (l .loop .inv .passed) ≤ length (now (l .before .before .before .args .output))
-enough c = let inv = c .before .before .before .loop .inv in omega (arith, room c .0, inv .long, inv .at)
-
 map-levels-requires : tie.Need-map-levels-requires Inv-loop μ-loop
 map-levels-requires c κs =
     let b = c .before in
@@ -72,7 +67,7 @@ map-levels-requires c κs =
     let words = now (b .body .result) in
     let next = walked-next _ (ok b) (inv .walk) h (s .strip-at .ensures) (b .body .ensures) in
     let all = rw (← next .all) at (start .pre .2 .front) in
-    let part = lent (levelsUnder tone) (levels-append tone) (length-levels tone) (inv .passed) old (inv .content) (inv .at) (enough b) in (
+    let part = lent (levelsUnder tone) (levels-append tone) (length-levels tone) (inv .passed) old (inv .content) (inv .at) in (
       words-body _ (ok b) (inv .walk) h (s .strip-at .ensures) (b .body .ensures),
       start .pre .1,
       record { front = rw (part, inv .at) (held-part indicesOf indices-append length-indices (inv .passed) (wordPixels words) _ old all) },
@@ -93,7 +88,7 @@ loop-again c =
       walk = walked-next _ (ok b) (inv .walk) h (s .strip-at .ensures) (b .body .ensures);
       at = omega (arith, words-three _ (ok b) (inv .walk) h (s .strip-at .ensures) (b .body .ensures), long, inv .at);
       content =
-          put-next (levelsUnder tone) (levels-append tone) (length-levels tone) (inv .passed) _ (inv .content) (inv .at) (enough b) _
+          put-next (levelsUnder tone) (levels-append tone) (length-levels tone) (inv .passed) _ (inv .content) (inv .at) _
           (m .map-levels .ensures);
       long = search needs;
     }
