@@ -1,16 +1,16 @@
--- The extremes of luminances: that they are what is claimed, and no others are; their order by 256E + M; of lists one after the other.
+-- The extremes of luminances: that they are what is claimed, and no others are; of lists one after the other.
 -- Assumes nothing.
 use mathlib.Core.Path.{_≡_, refl, sym, ap, ap₂, _∙_}
-use mathlib.Core.Logic.{inl, inr, _↔_}
+use mathlib.Core.Logic.{inl, inr}
 use mathlib.Core.Bool.{Bool, true, false, cond}
 use mathlib.Core.List.{List, [], _∷_, _++_}
-use Prim.Native.Nat.{ℕ, _+_, _*_, _≤_, _<_}
-use native.Mathlib.Nat.{le-refl, le-trans, le-of-lt, lt-trans, not-le-of-lt}
+use Prim.Native.Nat.{ℕ, _+_, _*_, _≤_}
+use native.Mathlib.Nat.{le-refl, le-trans, le-of-lt, lt-trans}
 use native.Mathlib.Omega.{arith}
 use lib.Dec.{leb}
 use lib.ListN.{length}
 use borrow.Author.Tests.{leb-true, leb-false, le-leb, lt-leb}
-use Rattle.number.proofs.Laws.{Every, every-map, Occurs, every-occurs, AtMost, Below, atMost, IsMantissa, unit, storedWorth, code-order}
+use Rattle.number.proofs.Laws.{Every, every-map, Occurs, every-occurs, AtMost, IsMantissa, unit, storedWorth, by-code}
 use Rattle.number.specs.declared.ratio.Stored.{Stored}
 use Rattle.average.specs.declared.tally.Extremes.{Extremes}
 use Rattle.average.specs.declared.tally.Extremes.the-variants.{Absent, Both}
@@ -97,31 +97,15 @@ extremes-mantissas ys valid = by (extremesOf ys) (extremes-hold ys)
     by Absent h = tt
     by (Both d b) h = (lit d (h .darkest-occurs), lit b (h .brightest-occurs))
 
--- ---- by codes
+-- ---- no other two
 
 -- 256E + M
 abbrev code : Stored → ℕ
 code y = 256 * y .exponent + y .mantissa
 
--- worths have the order of codes
-pub by-code : (x y : Stored) → IsMantissa (x .mantissa) → IsMantissa (y .mantissa)
-    → leb (code x) (code y) ≡ atMost (storedWorth x) (storedWorth y)
-by-code x y m n = by (leb (code x) (code y)) (leb (size x) (size y)) refl refl
-  where
-    order : (code y < code x) ↔ Below (storedWorth y) (storedWorth x)
-    order = code-order _ _ _ _ n m
-
-    by : (b c : Bool) → leb (code x) (code y) ≡ b → leb (size x) (size y) ≡ c → b ≡ c
-    by true true e f = refl
-    by true false e f = absurd (not-le-of-lt (order .1 (record { cross = leb-false _ _ f })) (leb-true _ _ e))
-    by false true e f = absurd (not-le-of-lt (order .0 (leb-false _ _ e) .cross) (leb-true _ _ f))
-    by false false e f = refl
-
--- ---- no other two
-
 -- a worth that is at most another has no larger code
 code-le : (x y : Stored) → IsLuminance x → IsLuminance y → AtMost (storedWorth x) (storedWorth y) → code x ≤ code y
-code-le x y l m h = leb-true _ _ (by-code x y (l .mantissa) (m .mantissa) ∙ le-leb _ _ (h .cross))
+code-le x y l m h = leb-true _ _ (by-code _ _ _ _ (l .mantissa) (m .mantissa) ∙ le-leb _ _ (h .cross))
 
 same : (x y : Stored) → IsLuminance x → IsLuminance y → AtMost (storedWorth x) (storedWorth y) → AtMost (storedWorth y) (storedWorth x) → x ≡ y
 same x y l m h g =

@@ -1,5 +1,5 @@
 -- What an accepted row of bands keeps to. Assumes nothing.
-use Prim.Native.Nat.{ℕ, _+_, _*_, _≤_, _<_}
+use Prim.Native.Nat.{ℕ, _+_, _*_, _<_}
 use mathlib.Core.Path.{_≡_, refl, sym, ap, _∙_}
 use mathlib.Core.Bool.{true}
 use mathlib.Core.List.{List, [], _∷_, _++_, flatMap}
@@ -11,12 +11,11 @@ use Rattle.number.proofs.Laws.{Every}
 use Rattle.refusal.specs.declared.Verdict.the-variants.{Accepted}
 use Rattle.refusal.proofs.Laws.{require-passed, and-passed}
 use Rattle.word.specs.declared.header.Header.{Header}
-use Rattle.word.specs.Words.{pixels, sizeFits}
-use Rattle.word.proofs.Limits.{both-true, size-limits}
+use Rattle.word.specs.Words.{sizeFits}
+use Rattle.word.proofs.Limits.{both-true}
 use Rattle.strip.specs.Checks.{headerFields}
 use Rattle.strip.specs.Reading.{stripPixels}
 use Rattle.strip.proofs.Limits.{Whole, whole-strip}
-use Rattle.strip.proofs.RoundTrip.{count-pixels}
 use Rattle.average.specs.declared.average.Average.{Average}
 use Rattle.average.specs.declared.average.Average.the-variants.{Absent, Present}
 use Rattle.average.specs.Tallies.{tallyOf, join}
@@ -26,7 +25,7 @@ use Rattle.page.specs.Tallying.{stripLuminances}
 use Rattle.page.specs.Mapping.{toneOf, pageLevels}
 use Rattle.series.specs.Series.{Standing, seriesOf}
 use Rattle.series.proofs.Laws.{standing-accepted, series-next}
-use Rattle.bands.specs.Checks.{bandHeader, joins, checkBand, checkEach, checkBands, joinedHeight, tallHeader}
+use Rattle.bands.specs.Checks.{bandHeader, joins, checkBand, checkEach, checkBands, joinedHeight}
 use Rattle.bands.specs.Joining.{joinTallies, bandLevels}
 use Rattle.bands.specs.loops.Walks.{joinedPixels}
 
@@ -37,13 +36,13 @@ pub record IsBand (first : Header) (b : Standing) : Type 0 where
   pub width : bandHeader b .width ≡ first .width
   pub key : bandHeader b .key ≡ first .key
 
-pub record Joined (first : Header) (rows : ℕ) (b : Standing) : Type 0 where
+pub record Joined (first : Header) (above : ℕ) (b : Standing) : Type 0 where
   pub band : IsBand first b
-  pub fits : sizeFits (first .width) (rows + bandHeader b .height) ≡ true
+  pub fits : sizeFits (first .width) (above + bandHeader b .height) ≡ true
 
-pub band-accepted : (first : Header) (rows : ℕ) (b : Standing) → checkBand first rows b ≡ Accepted → Joined first rows b
+pub band-accepted : (first : Header) (above : ℕ) (b : Standing) → checkBand first above b ≡ Accepted → Joined first above b
 unfolding checkBand joins
-band-accepted first rows b e =
+band-accepted first above b e =
     let a = and-passed _ _ e in
     let p = both-true _ _ (require-passed _ _ _ _ (a .1) .0) in
     let q = both-true _ _ (p .0) in
@@ -58,24 +57,24 @@ band-accepted first rows b e =
 
 -- ---- all bands
 
-pub each-accepted : (first : Header) (rows : ℕ) (bs : List Standing) → checkEach first rows bs ≡ Accepted → Every (IsBand first) bs
+pub each-accepted : (first : Header) (above : ℕ) (bs : List Standing) → checkEach first above bs ≡ Accepted → Every (IsBand first) bs
 unfolding checkEach
-each-accepted first rows [] e = tt
-each-accepted first rows (b ∷ bs) e =
+each-accepted first above [] e = tt
+each-accepted first above (b ∷ bs) e =
     let a = and-passed _ _ e in
-    (band-accepted first rows b (a .0) .band, each-accepted first _ bs (a .1))
+    (band-accepted first above b (a .0) .band, each-accepted first _ bs (a .1))
 
 -- one band or more have a joined size within the limits
-joined-fits : (first : Header) (rows : ℕ) (b : Standing) (bs : List Standing) → checkEach first rows (b ∷ bs) ≡ Accepted
-    → sizeFits (first .width) (rows + joinedHeight (b ∷ bs)) ≡ true
+joined-fits : (first : Header) (above : ℕ) (b : Standing) (bs : List Standing) → checkEach first above (b ∷ bs) ≡ Accepted
+    → sizeFits (first .width) (above + joinedHeight (b ∷ bs)) ≡ true
 unfolding checkEach joinedHeight
-joined-fits first rows b [] e =
-    let same : rows + (bandHeader b .height + 0) ≡ rows + bandHeader b .height = omega arith in
-    rw same (band-accepted first rows b (and-passed _ _ e .0) .fits)
-joined-fits first rows b (c ∷ bs) e =
+joined-fits first above b [] e =
+    let same : above + (bandHeader b .height + 0) ≡ above + bandHeader b .height = omega arith in
+    rw same (band-accepted first above b (and-passed _ _ e .0) .fits)
+joined-fits first above b (c ∷ bs) e =
     let h = bandHeader b .height in
-    let same : rows + (h + joinedHeight (c ∷ bs)) ≡ rows + h + joinedHeight (c ∷ bs) = omega arith in
-    rw same (joined-fits first (rows + h) c bs (and-passed _ _ e .1))
+    let same : above + (h + joinedHeight (c ∷ bs)) ≡ above + h + joinedHeight (c ∷ bs) = omega arith in
+    rw same (joined-fits first (above + h) c bs (and-passed _ _ e .1))
 
 -- an accepted row
 pub record AreBands (r : List ℕ) : Type 0 where
@@ -96,20 +95,6 @@ bands-accepted r e =
     }
 
 -- ---- their pixels
-
-count-row : (first : Header) (bs : List Standing) → Every (IsBand first) bs → length (joinedPixels bs) ≡ first .width * joinedHeight bs
-unfolding flatMap joinedHeight
-count-row first [] valid = omega arith
-count-row first (b ∷ bs) valid =
-    let n = count-pixels (b .strip) (valid .0 .whole) in
-    let rest = count-row first bs (valid .1) in
-    length-append (stripPixels (b .strip)) (joinedPixels bs) ∙ rw (n, rest, valid .0 .width) (omega arith)
-
-pub count-all : (r : List ℕ) → AreBands r → length (joinedPixels (seriesOf r)) ≡ pixels (tallHeader r)
-count-all r ok = count-row (headerFields r) (seriesOf r) (ok .each)
-
-pub few-pixels : (r : List ℕ) → AreBands r → length (joinedPixels (seriesOf r)) ≤ 16777216
-few-pixels r ok = rw (count-all r ok) (size-limits _ _ (ok .fits) .count)
 
 -- the joined tally is that of all pixels
 pub tallies-of : (bs : List Standing) → joinTallies bs ≡ tallyOf (luminancesOf (joinedPixels bs))

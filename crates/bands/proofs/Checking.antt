@@ -38,30 +38,30 @@ module _ (r : List ℕ) where
 
 -- ---- the walk: the verdict on the bands that are left is that on all
 
-pub record Checking (r : List ℕ) (first : Header) (rows i : ℕ) : Type 0 where
+pub record Checking (r : List ℕ) (first : Header) (above i : ℕ) : Type 0 where
   pub within : i ≤ length r
-  pub few : rows ≤ 8192
-  pub same : checkEach first rows (seriesFrom r i) ≡ checkEach first 0 (seriesOf r)
+  pub few : above ≤ 8192
+  pub same : checkEach first above (seriesFrom r i) ≡ checkEach first 0 (seriesOf r)
 
 module _ (r : List ℕ) (first : Header) where
   pub checking-all : Checking r first 0 0
   checking-all = record { within = omega arith; few = omega arith; same = refl }
 
-  module _ {rows i : ℕ} (inv : Checking r first rows i) where
+  module _ {above i : ℕ} (inv : Checking r first above i) where
     opened : i < length r
-        → checkEach first rows (seriesFrom r i)
-        ≡ andThen (checkBand first rows (standingAt r i))
-        (checkEach first (rows + headerFields (stripAt r i) .height) (seriesFrom r (i + length (stripAt r i))))
+        → checkEach first above (seriesFrom r i)
+        ≡ andThen (checkBand first above (standingAt r i))
+        (checkEach first (above + headerFields (stripAt r i) .height) (seriesFrom r (i + length (stripAt r i))))
     unfolding checkEach
     opened h = rw (series-next r i h)
 
-    module _ {v : Verdict} (h : i < length r) (e : v ≡ checkBand first rows (standingAt r i)) where
+    module _ {v : Verdict} (h : i < length r) (e : v ≡ checkBand first above (standingAt r i)) where
       pub checking-next : v ≡ Accepted → {band : List ℕ} → band ≡ stripAt r i
-          → Checking r first (rows + headerFields band .height) (i + length band)
+          → Checking r first (above + headerFields band .height) (i + length band)
       unfolding andThen
       checking-next f b =
           let accepted = sym e ∙ f in
-          let limits = size-limits _ _ (band-accepted first rows _ accepted .fits) in
+          let limits = size-limits _ _ (band-accepted first above _ accepted .fits) in
           rw b
           (record {
             within = strip-at-within r i h .1;
@@ -75,27 +75,27 @@ module _ (r : List ℕ) (first : Header) where
 
     pub checking-done : length r ≤ i → Accepted ≡ checkEach first 0 (seriesOf r)
     unfolding checkEach
-    checking-done h = sym (ap (checkEach first rows) (series-over r i h)) ∙ inv .same
+    checking-done h = sym (ap (checkEach first above) (series-over r i h)) ∙ inv .same
 
--- ---- the rows of all bands: those that were passed, and those that are left
+-- ---- the joined height: that of the bands that were passed, and of those that are left
 
-pub record Counting (r : List ℕ) (rows i : ℕ) : Type 0 where
+pub record Counting (r : List ℕ) (height i : ℕ) : Type 0 where
   pub within : i ≤ length r
-  pub same : rows + joinedHeight (seriesFrom r i) ≡ joinedHeight (seriesOf r)
+  pub same : height + joinedHeight (seriesFrom r i) ≡ joinedHeight (seriesOf r)
 
 module _ (r : List ℕ) where
   pub counting-all : Counting r 0 0
   counting-all = record { within = omega arith; same = zero-add (joinedHeight (seriesOf r)) }
 
-  module _ {rows i : ℕ} (inv : Counting r rows i) where
+  module _ {height i : ℕ} (inv : Counting r height i) where
     pub counting-next : i < length r → {band : List ℕ} → band ≡ stripAt r i
-        → Counting r (rows + headerFields band .height) (i + length band)
+        → Counting r (height + headerFields band .height) (i + length band)
     unfolding joinedHeight
     counting-next h b =
         let same = rw (series-next r i h) at (inv .same) in
         rw b (record { within = strip-at-within r i h .1; same = omega arith })
 
-    pub counting-done : length r ≤ i → rows ≡ joinedHeight (seriesOf r)
+    pub counting-done : length r ≤ i → height ≡ joinedHeight (seriesOf r)
     unfolding joinedHeight
     counting-done h = let same = rw (series-over r i h) at (inv .same) in omega arith
 

@@ -3,7 +3,6 @@ use Prim.Native.Nat.{ℕ, _+_, _*_, _≤_}
 use mathlib.Core.Path.{_≡_, refl, sym, ap, ap₂, subst, _∙_}
 use mathlib.Core.Bool.{true}
 use mathlib.Core.List.{List, [], _∷_, _++_, flatMap}
-use native.Mathlib.Nat.{mul-le-mul-left}
 use native.Mathlib.Omega.{arith}
 use borrow.Author.Tests.{le-leb, eq-eqb}
 use lib.ListN.{length, take, drop, length-drop, take-append-drop}
@@ -15,7 +14,7 @@ use Rattle.refusal.specs.declared.Verdict.the-variants.{Accepted}
 use Rattle.refusal.proofs.Laws.{require-met, and-met}
 use Rattle.word.specs.declared.header.Header.{Header}
 use Rattle.word.specs.Words.{pixels, sizeFits, keyFits, stripOf, stripLength}
-use Rattle.word.proofs.Limits.{size-limits}
+use Rattle.word.proofs.Limits.{size-limits, fewer-rows}
 use Rattle.strip.specs.Checks.{headerFields, declaredLength, checkStrip}
 use Rattle.strip.specs.Reading.{stripChannels}
 use Rattle.strip.proofs.Limits.{Whole, whole-strip}
@@ -28,22 +27,6 @@ use Rattle.bands.specs.Checks.{withRows, joins, checkBand, checkEach, ch
 use Rattle.bands.specs.Cutting.{joinedChannels, tallStrip, cutChannels, cutInto}
 use Rattle.bands.specs.Claims.{AreItsBands, CutsAreBands}
 use Rattle.bands.proofs.Tall.{bands-are-tall}
-
--- fewer rows of a width within the limits are within them
-fewer-rows : (w h n : ℕ) → sizeFits w h ≡ true → 1 ≤ n → n ≤ h → sizeFits w n ≡ true
-unfolding sizeFits
-fewer-rows w h n e least most =
-    let q = size-limits w h e in
-    let high = q .height in
-    let few = q .count in
-    let count = mul-le-mul-left w most in
-    rw (
-      le-leb 1 w (q .wide),
-      le-leb w 8192 (q .width),
-      le-leb 1 n least,
-      le-leb n 8192 (omega arith),
-      le-leb (w * n) 16777216 (omega arith),
-    )
 
 -- ---- one band after another
 

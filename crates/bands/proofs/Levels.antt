@@ -6,12 +6,9 @@ use borrow.Author.Tests.{leb-true}
 use lib.IntN.{ℤ}
 use lib.ListN.{length, replicate}
 use Rattle.number.specs.declared.ratio.Stored.{Stored}
-use Rattle.refusal.specs.declared.Refusal.{Refusal}
-use Rattle.refusal.specs.declared.Verdict.{Verdict}
-use Rattle.refusal.specs.declared.Verdict.the-variants.{Accepted, Refused}
-use Rattle.refusal.specs.Output.{onto, after}
-use Rattle.refusal.specs.Verdicts.{reportOf}
-use Rattle.refusal.proofs.Laws.{require-passed, and-passed, also-with}
+use Rattle.refusal.specs.declared.Verdict.the-variants.{Accepted}
+use Rattle.refusal.specs.Output.{onto}
+use Rattle.refusal.proofs.Laws.{require-passed, and-passed}
 use Rattle.word.specs.Words.{pixels}
 use Rattle.strip.specs.Checks.{headerFields}
 use Rattle.average.specs.declared.average.Average.the-variants.{Absent, Present}
@@ -19,15 +16,12 @@ use Rattle.body.specs.Levels.{levelsUnder}
 use Rattle.body.specs.loops.Indices.{indicesOf}
 use Rattle.average.proofs.Laws.{absent}
 use Rattle.body.proofs.Laws.{length-indices, length-levels, dark-indices, over-indices}
-use Rattle.page.specs.Claims.{MapPromise}
 use Rattle.page.specs.Mapping.{toneOf}
 use Rattle.series.specs.Series.{seriesOf}
 use Rattle.bands.specs.Checks.{checkBands, tallHeader, checkMapBands}
-use Rattle.bands.specs.Cutting.{tallStrip}
 use Rattle.bands.specs.Joining.{joinedAverage, joinedLevels}
 use Rattle.bands.specs.loops.Walks.{joinedPixels, HoldsAll}
 use Rattle.bands.proofs.Accepted.{AreBands, bands-accepted, tallies-of, levels-of}
-use Rattle.bands.proofs.Bounds.{map-promise}
 
 -- ---- an accepted row and output
 
@@ -68,17 +62,3 @@ module _ (r : List ℕ) (e : checkBands r ≡ Accepted) (old : List ℕ) {kept :
         let levels : joinedLevels r ≡ levelsUnder tone ps =
         levels-of (joinedAverage (seriesOf r)) (headerFields r) (seriesOf r) (ok .each) ∙ rw present in
         f ∙ rw (levels, k) (over-indices ps (levelsUnder tone ps) old (length-levels tone ps))
-
--- ---- the promise of mapping
-
-abbrev MapsBands : (r old : List ℕ) → Verdict → (new : List ℕ) → Type 0
-MapsBands r old v new =
-    (v ≡ checkMapBands r (length old))
-    × ((reportOf v ≡ reportOf (checkMapBands r (length old))) × ((new ≡ after v (joinedLevels r) old) × MapPromise (tallStrip r) v new))
-
-pub left-alone : (r old : List ℕ) {v : Verdict} {q : Refusal} {i : ℕ} → v ≡ checkMapBands r (length old) → v ≡ Refused q i
-    → MapsBands r old v old
-left-alone r old e f = also-with reportOf e (rw f, rw f tt)
-
-pub filled : (r old new : List ℕ) → Accepted ≡ checkMapBands r (length old) → new ≡ onto (joinedLevels r) old → MapsBands r old Accepted new
-filled r old new e f = also-with reportOf e (f, rw f (map-promise r old (map-limits r (length old) (sym e) .bands)))

@@ -1,5 +1,5 @@
 -- An accepted row of bands is the one tall strip. Assumes nothing.
-use Prim.Native.Nat.{ℕ, _*_}
+use Prim.Native.Nat.{ℕ, _*_, _≤_}
 use mathlib.Core.Path.{_≡_, refl, sym, ap, ap₂, _∙_}
 use mathlib.Core.Bool.{true}
 use mathlib.Core.List.{List, [], _∷_, _++_, flatMap}
@@ -12,10 +12,12 @@ use Rattle.refusal.specs.declared.Verdict.the-variants.{Accepted}
 use Rattle.word.specs.declared.header.Header.{Header}
 use Rattle.word.specs.Words.{pixels, keyFits}
 use Rattle.word.specs.Pixels.{pixelsOf}
+use Rattle.word.proofs.Limits.{size-limits}
 use Rattle.word.proofs.Pixels.{pixels-append}
 use Rattle.strip.specs.Checks.{headerFields, checkStrip}
 use Rattle.strip.specs.Reading.{stripChannels, stripPixels, headerUnder}
-use Rattle.strip.proofs.RoundTrip.{IsPage, header-written, written-accepted, channels-written, page-read}
+use Rattle.strip.proofs.Limits.{Whole, whole-strip}
+use Rattle.strip.proofs.RoundTrip.{IsPage, header-written, written-accepted, channels-written, page-read, count-pixels}
 use Rattle.average.specs.declared.average.Average.{Average}
 use Rattle.average.specs.declared.average.Average.the-variants.{Absent, Present}
 use Rattle.average.specs.Tallies.{tallyOf}
@@ -90,6 +92,16 @@ module _ (r : List ℕ) (ok : AreBands r) where
 
   pub tall-pixels : stripPixels (tallStrip r) ≡ joinedPixels (seriesOf r)
   tall-pixels = ap pixelsOf (channels-written _ _ tall-page) ∙ row-pixels (headerFields r) (seriesOf r) (ok .each)
+
+  pub tall-whole : Whole (tallStrip r)
+  tall-whole = whole-strip (tallStrip r) tall-accepted
+
+  -- so many pixels have all bands
+  pub count-all : length (joinedPixels (seriesOf r)) ≡ pixels (tallHeader r)
+  count-all = ap length (sym tall-pixels) ∙ count-pixels (tallStrip r) tall-whole ∙ ap pixels tall-header
+
+  pub few-pixels : length (joinedPixels (seriesOf r)) ≤ 16777216
+  few-pixels = rw count-all (size-limits _ _ (ok .fits) .count)
 
   pub tall-tally : joinTallies (seriesOf r) ≡ tallyOf (stripLuminances (tallStrip r))
   tall-tally = tallies-of (seriesOf r) ∙ ap (λ ps. tallyOf (luminancesOf ps)) (sym tall-pixels)

@@ -29,7 +29,8 @@ use Rattle.series.specs.loops.Walks.{seriesFrom}
 use Rattle.series.proofs.Laws.{series-next, series-over}
 use Rattle.bands.specs.Joining.{joinTallies}
 use Rattle.bands.specs.loops.Walks.{joinedPixels}
-use Rattle.bands.proofs.Accepted.{IsBand, AreBands, few-pixels, tallies-of}
+use Rattle.bands.proofs.Accepted.{IsBand, AreBands, tallies-of}
+use Rattle.bands.proofs.Tall.{few-pixels}
 
 -- ---- where a walk stands: `passed` are the pixels of the bands that were passed
 

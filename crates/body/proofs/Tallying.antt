@@ -12,7 +12,7 @@ use native.Mathlib.Numerals.{add-one}
 use borrow.Author.Tests.{leb-true, leb-false, le-leb, lt-leb, ne-eqb}
 use Rattle.number.specs.declared.channel.Pixel.{Pixel}
 use Rattle.number.specs.declared.ratio.Stored.{Stored}
-use Rattle.number.proofs.Laws.{Every, IsMantissa, atMost, storedWorth}
+use Rattle.number.proofs.Laws.{Every, IsMantissa, atMost, storedWorth, by-code}
 use Rattle.refusal.specs.Output.{onto}
 use Rattle.luminance.specs.declared.pixel.Luminance.{Luminance}
 use Rattle.luminance.specs.declared.pixel.Luminance.the-variants.{Unlit, Lit}
@@ -22,7 +22,7 @@ use Rattle.luminance.proofs.Laws.{luminance-range, index-stored, index-range}
 use Rattle.average.specs.declared.tally.Extremes.the-variants.{Both}
 use Rattle.average.specs.Tallies.{darker, brighter, joinExtremes, extremesOf, tallyOf}
 use Rattle.average.specs.loops.Sums.{total, raisedSteps}
-use Rattle.average.proofs.Laws.{raised-most, sum-is, by-code}
+use Rattle.average.proofs.Laws.{raised-most, sum-is}
 use Rattle.body.specs.Luminances.{ifLit, luminancesOf}
 use Rattle.body.specs.loops.Indices.{indexList}
 use Rattle.body.specs.loops.Tallying.{stepsAt, unlitAt, lowest, fromDarkest, fromBrightest, extremesAt, tallyFrom}
@@ -96,7 +96,7 @@ pub record IsPlace (i : ℕ) : Type 0 where
 
 module _ (i j : ℕ) (p : IsPlace i) (q : IsPlace j) where
   index-order : atMost (storedWorth (storedAt i)) (storedWorth (storedAt j)) ≡ leb i j
-  index-order = sym (by-code (storedAt i) (storedAt j) (mantissa-at i) (mantissa-at j)) ∙ by (leb i j) refl
+  index-order = sym (by-code _ _ _ _ (mantissa-at i) (mantissa-at j)) ∙ by (leb i j) refl
     where
       by : (b : Bool) → leb i j ≡ b → leb (codeAt i) (codeAt j) ≡ b
       by true e = le-leb (codeAt i) (codeAt j) (omega (arith, leb-true i j e))

@@ -36,7 +36,7 @@ pub use Rattle.number.proofs.Normalised.{cell}
 -- a sum cut to one sticky bit is stored as the whole sum
 pub use Rattle.number.proofs.Sticky.{sticky-bit}
 -- the order of 256E + M; channels
-pub use Rattle.number.proofs.Storing.{code-order, code-mono}
+pub use Rattle.number.proofs.Storing.{code-order, by-code, code-mono}
 pub use Rattle.number.proofs.Channels.{code-channel, channel-code, code-refused, code-valid, channel-order, channel-valid}
 pub use Rattle.number.proofs.Sources.{half-valid, single-valid, rgbe-valid}
 pub use Rattle.number.proofs.Halves.{half-finite, plain-half}

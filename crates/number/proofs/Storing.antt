@@ -3,6 +3,7 @@ use mathlib.Core.Path.{_≡_, refl, sym, ap, ap₂, _∙_, subst, subst₂}
 use mathlib.Core.Logic.{_↔_, ⊎-elim}
 use Prim.Native.Nat.{ℕ, zero, suc, _+_, _-_, _*_, _/_, _^_, _≤_, _<_}
 use native.Mathlib.Nat.{
+  not-le-of-lt,
   div-lt-iff-lt-mul,
   eq-or-lt-of-le,
   le-div-iff-mul-le,
@@ -24,12 +25,13 @@ use native.Mathlib.Nat.{
 use native.Mathlib.Decide.{decLe}
 use native.Mathlib.Omega.{arith}
 use lib.Dec.{T, leb, ltb, leb→le, ltb→lt, lit<}
-use borrow.Author.Tests.{le-ltb}
+use mathlib.Core.Bool.{Bool, true, false}
+use borrow.Author.Tests.{le-ltb, leb-true, leb-false}
 use lib.IntN.{pos}
 use lib.Ieee.{size}
 use lib.Ieee.Digits.{size-lt, size-reaches}
 use lib.Pow.{pow-pos, pow-mono}
-use Rattle.number.specs.Fractions.{Frac, _over_, twoToMinus, twoTo, Equal, AtMost, Below}
+use Rattle.number.specs.Fractions.{Frac, _over_, twoToMinus, twoTo, Equal, AtMost, Below, atMost}
 use Rattle.number.specs.Storing.{
   exponentAt,
   Scales,
@@ -95,6 +97,19 @@ code-order E M E′ M′ m m′ = (code-less E M E′ M′ m m′, λ h. lt-of-n
 
     greater : Below (worth E M) (worth E′ M′) → 256 * E′ + M′ < 256 * E + M → ⊥
     greater h l = lt-irrefl _ (lt-trans (h .cross) (code-less E′ M′ E M m′ m l .cross))
+
+-- and so do the tests
+pub by-code : (E M E′ M′ : ℕ) → IsMantissa M → IsMantissa M′ → leb (256 * E + M) (256 * E′ + M′) ≡ atMost (worth E M) (worth E′ M′)
+by-code E M E′ M′ m m′ = by (leb (256 * E + M) (256 * E′ + M′)) (atMost (worth E M) (worth E′ M′)) refl refl
+  where
+    order : (256 * E′ + M′ < 256 * E + M) ↔ Below (worth E′ M′) (worth E M)
+    order = code-order E′ M′ E M m′ m
+
+    by : (b c : Bool) → leb (256 * E + M) (256 * E′ + M′) ≡ b → atMost (worth E M) (worth E′ M′) ≡ c → b ≡ c
+    by true true e f = refl
+    by true false e f = absurd (not-le-of-lt (order .1 (record { cross = leb-false _ _ f })) (leb-true _ _ e))
+    by false true e f = absurd (not-le-of-lt (order .0 (leb-false _ _ e) .cross) (leb-true _ _ f))
+    by false false e f = refl
 
 -- and so what is stored of the larger number has no smaller one
 pub code-mono : {F G : Frac} {E M E′ M′ : ℕ} → Stores F E M → Stores G E′ M′ → AtMost F G → 256 * E + M ≤ 256 * E′ + M′

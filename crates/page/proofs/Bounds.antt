@@ -33,7 +33,7 @@ use Rattle.page.specs.Tallying.{stripLuminances, stripAverage, tallyUnde
 use Rattle.body.specs.Luminances.{litCount}
 use Rattle.body.specs.Levels.{levelsUnder}
 use Rattle.body.proofs.Laws.{storedLuminance, lit-luminance, lit-count, every-luminance}
-use Rattle.page.specs.Checks.{checkTally, checkMap}
+use Rattle.page.specs.Checks.{checkTally}
 use Rattle.page.specs.Mapping.{stripLevels}
 use Rattle.page.specs.Claims.{MeanHalf, EachThree, LitBound, LevelHalf, BoundsReported, DemandThree}
 use Rattle.page.specs.Claims.{WhereLit, TallyPromise, MapPromise}
@@ -115,25 +115,24 @@ tally-bound s = by (checkTally s) refl
         )
     by (Refused r i) e = tt
 
-pub bounded : (s : List ℕ) {r : TallyOrRefusal} → r ≡ tallyStrip s
-    → (r ≡ tallyStrip s) × ((tallyTold r ≡ tallyTold (tallyStrip s)) × TallyPromise s r)
-bounded s e = also-with tallyTold e (subst (TallyPromise s) (sym e) (tally-bound s))
+-- an answer by a rule that promises so much of a strip
+pub bounded : (s : List ℕ) {rule answer : TallyOrRefusal} → TallyPromise s rule → answer ≡ rule
+    → (answer ≡ rule) × ((tallyTold answer ≡ tallyTold rule) × TallyPromise s answer)
+bounded s p e = also-with tallyTold e (subst (TallyPromise s) (sym e) p)
 
 pub map-bound : (s output : List ℕ) → checkTally s ≡ Accepted → MapPromise s Accepted (onto (stripLevels s) output)
 map-bound s output e = where-lit s (tally-whole s e) _ (λ A q. level-half s (tally-whole s e) output q)
 
--- the promise of mapping
-abbrev Mapped : (s old : List ℕ) → Verdict → (new : List ℕ) → Type 0
-Mapped s old v new =
-    (v ≡ checkMap s (length old))
-    × ((reportOf v ≡ reportOf (checkMap s (length old))) × ((new ≡ after v (stripLevels s) old) × MapPromise s v new))
+-- what a call leaves in the output where a rule decides: these levels, of which so much is promised of a strip
+module _ (s levels old : List ℕ) (rule : Verdict) where
+  abbrev Mapped : Verdict → (new : List ℕ) → Type 0
+  Mapped v new = (v ≡ rule) × ((reportOf v ≡ reportOf rule) × ((new ≡ after v levels old) × MapPromise s v new))
 
-pub left-alone : (s old : List ℕ) {v : Verdict} {r : Refusal} {i : ℕ} → v ≡ checkMap s (length old) → v ≡ Refused r i
-    → Mapped s old v old
-left-alone s old e f = also-with reportOf e (rw f, rw f tt)
+  pub left-alone : {v : Verdict} {r : Refusal} {i : ℕ} → v ≡ rule → v ≡ Refused r i → Mapped v old
+  left-alone e f = also-with reportOf e (rw f, rw f tt)
 
-pub filled : (s old new : List ℕ) → Accepted ≡ checkMap s (length old) → new ≡ onto (stripLevels s) old → Mapped s old Accepted new
-filled s old new e f = also-with reportOf e (f, rw f (map-bound s old (map-tally s (length old) (sym e))))
+  pub filled : {new : List ℕ} → Accepted ≡ rule → new ≡ onto levels old → MapPromise s Accepted (onto levels old) → Mapped Accepted new
+  filled e f p = also-with reportOf e (f, rw f p)
 
 -- ---- both together
 

@@ -5,4 +5,4 @@ pub use Rattle.page.proofs.Checks.{tally-checked, tally-whole, map-chec
 -- the words and pixels of an accepted strip; its average, and what it is mapped under; the number of its level bytes
 pub use Rattle.page.proofs.Strips.{strip-body, strip-valid, has-average, average-is, strip-tone, length-levels}
 -- what the two calls promise; demand 3
-pub use Rattle.page.proofs.Bounds.{tally-bound, map-bound, demand-three}
+pub use Rattle.page.proofs.Bounds.{tally-bound, bounded, map-bound, left-alone, filled, demand-three}

@@ -4,12 +4,13 @@ use mathlib.Core.Path.{_≡_, refl, ap, _∙_}
 use mathlib.Core.List.{List, [], _∷_, _++_}
 use native.Mathlib.Omega.{arith}
 use lib.ListN.{length, take, drop, length-take, length-drop, length-append, drop-of-length-le}
-use lib.Seq.{drop-drop, drop-nil, take-nil, take-all, take-at, drop-at}
+use lib.Seq.{drop-drop, drop-nil, take-all, take-at, drop-at}
 use Rattle.refusal.specs.declared.Verdict.{Verdict}
 use Rattle.refusal.specs.declared.Verdict.the-variants.{Accepted, Refused}
 use Rattle.word.specs.Words.{stripLength}
 use Rattle.word.proofs.Limits.{pixels-small}
 use Rattle.strip.specs.Checks.{wordAt, headerFields, declaredLength, checkStrip}
+use Rattle.strip.proofs.Bodies.{part-within}
 use Rattle.strip.proofs.Places.{place-within}
 use Rattle.series.specs.Series.{Standing, frontStrip, stripsFrom, movedBy, checkStanding, stripAt, standingAt}
 use Rattle.series.specs.loops.Walks.{seriesFrom, PlacesFit}
@@ -33,12 +34,6 @@ drop-min : (n : ℕ) (ws : List ℕ) → drop (min n (length ws)) ws ≡ drop n 
 drop-min zero ws = let e : min zero (length ws) ≡ zero = omega arith in rw e
 drop-min (suc n) [] = drop-nil (min (suc n) 0)
 drop-min (suc n) (w ∷ ws) = let e : min (suc n) (suc (length ws)) ≡ suc (min n (length ws)) = omega arith in rw e (drop-min n ws)
-
-take-min : (n : ℕ) (ws : List ℕ) → take (min n (length ws)) ws ≡ take n ws
-take-min zero ws = let e : min zero (length ws) ≡ zero = omega arith in rw e
-take-min (suc n) [] = take-nil (min (suc n) 0)
-take-min (suc n) (w ∷ ws) =
-    let e : min (suc n) (suc (length ws)) ≡ suc (min n (length ws)) = omega arith in rw e (ap (λ vs. w ∷ vs) (take-min n ws))
 
 front-next : (i : ℕ) (ws : List ℕ) → 0 < length ws
     → stripsFrom i 0 ws
@@ -85,8 +80,11 @@ module _ (r : List ℕ) (i : ℕ) where
 
     pub strip-part : take (i + count - i) (drop i r) ≡ stripAt r i
     strip-part =
-        let same : i + count - i ≡ min (declaredLength (drop i r)) (length (drop i r)) = omega (arith, counted) in
-        ap (λ k. take k (drop i r)) same ∙ take-min (declaredLength (drop i r)) (drop i r)
+        let n = declaredLength (drop i r) in
+        let l = length (drop i r) in
+        let front : min 0 l ≡ 0 = omega arith in
+        let same : i + count - i ≡ min (0 + n) l - 0 = omega (arith, counted) in
+        ap (λ k. take k (drop i r)) same ∙ (rw front at (part-within (drop i r) 0 n))
 
   -- no place overflows: a refused strip names a word up to where its end word should stand
   pub places-fit : i ≤ length r → length r * 4 < 2 ^ 63 → PlacesFit i (checkStrip (stripAt r i))

@@ -2,9 +2,9 @@
 use Prim.Native.Nat.{ℕ, _*_, _≤_}
 use mathlib.Core.Path.{_≡_, refl}
 use mathlib.Core.Bool.{Bool, true, false, _&&_}
-use native.Mathlib.Nat.{mul-le-mul}
+use native.Mathlib.Nat.{mul-le-mul, mul-le-mul-left}
 use native.Mathlib.Omega.{arith}
-use borrow.Author.Tests.{leb-true}
+use borrow.Author.Tests.{leb-true, le-leb}
 use Rattle.word.specs.declared.header.Header.{Header}
 use Rattle.word.specs.Words.{sizeFits, keyFits, bodyStart}
 use Rattle.word.specs.Fields.{widthIn, heightIn}
@@ -34,6 +34,22 @@ size-limits w h e =
       height = leb-true _ _ (q .1);
       count = leb-true _ _ (p .1);
     }
+
+-- fewer rows of a width within the limits are within them
+pub fewer-rows : (w h n : ℕ) → sizeFits w h ≡ true → 1 ≤ n → n ≤ h → sizeFits w n ≡ true
+unfolding sizeFits
+fewer-rows w h n e least most =
+    let q = size-limits w h e in
+    let high = q .height in
+    let few = q .count in
+    let count = mul-le-mul-left w most in
+    rw (
+      le-leb 1 w (q .wide),
+      le-leb w 8192 (q .width),
+      le-leb 1 n least,
+      le-leb n 8192 (omega arith),
+      le-leb (w * n) 16777216 (omega arith),
+    )
 
 pub record Keyed (k : ℕ) : Type 0 where
   pub least : 1 ≤ k

@@ -320,13 +320,7 @@ fn white_bands_switched_off() {
 #[test]
 fn cuttings_under_every_rule() {
     let mut generator = Generator::new(13);
-    for bits in 0..16 {
-        let step = SecondStep::new(Rules {
-            dark_page: bits & 1 != 0,
-            white_word: bits & 2 != 0,
-            nearest_steps: bits & 4 != 0,
-            screen_curve: bits & 8 != 0,
-        });
+    for step in every_rule() {
         for white in [None, Some(10 + generator.below(991))] {
             let page = Header {
                 width: 2,

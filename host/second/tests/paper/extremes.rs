@@ -1,7 +1,7 @@
 //! Change 2026-01: "Darkest and brightest in the tally."
 
 use crate::helpers::*;
-use second::{Extremes, Number, Rules, SecondStep, Source};
+use second::{Extremes, Number, SecondStep, Source};
 
 /// The extremes of one row of stored pixels.
 fn of(step: &SecondStep, source: &[u16]) -> Option<Extremes> {
@@ -174,13 +174,7 @@ fn whole_range() {
 fn every_rule_reports_them() {
     let page = grey(&[BLACK, stored(90, 222), BLACK, stored(89, 223), BLACK]);
     let strip = stored_strip(&base(), &page, 180, None);
-    for bits in 0..16 {
-        let step = SecondStep::new(Rules {
-            dark_page: bits & 1 != 0,
-            white_word: bits & 2 != 0,
-            nearest_steps: bits & 4 != 0,
-            screen_curve: bits & 8 != 0,
-        });
+    for step in every_rule() {
         assert_eq!(step.tally(&strip).unwrap().extremes, dark_and_bright((89, 223), (90, 222)));
     }
 }

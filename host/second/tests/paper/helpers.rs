@@ -9,6 +9,18 @@ pub const HALF: u16 = 0x3800;
 
 pub const NO_ROOM_LIMIT: usize = usize::MAX;
 
+/// A second step for each setting of all switches.
+pub fn every_rule() -> impl Iterator<Item = SecondStep> {
+    (0..16).map(|bits| {
+        SecondStep::new(Rules {
+            dark_page: bits & 1 != 0,
+            white_word: bits & 2 != 0,
+            nearest_steps: bits & 4 != 0,
+            screen_curve: bits & 8 != 0,
+        })
+    })
+}
+
 pub fn base() -> SecondStep {
     SecondStep::new(Rules::BASE)
 }

@@ -11,7 +11,8 @@ use Rattle.refusal.specs.Output.{onto}
 use Rattle.word.specs.Pixels.{wordPixels}
 use Rattle.body.specs.loops.Indices.{indicesOf}
 use Rattle.body.proofs.Laws.{indices-append, length-indices}
-use Rattle.bands.proofs.Accepted.{AreBands, bands-accepted, count-all, few-pixels}
+use Rattle.bands.proofs.Accepted.{AreBands, bands-accepted}
+use Rattle.bands.proofs.Tall.{count-all, few-pixels}
 use Rattle.bands.proofs.Checking.{ahead}
 use Rattle.bands.proofs.Outputs.{put-next}
 use Rattle.bands.proofs.Walks.{walked-none, walked-all, words-body, words-three, words-room, walked-next, both-tallies, tally-next, tally-all, Kept, none-tallied}

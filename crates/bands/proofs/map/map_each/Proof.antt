@@ -12,7 +12,8 @@ use Rattle.word.specs.Pixels.{wordPixels}
 use Rattle.body.specs.Levels.{levelsUnder}
 use Rattle.body.specs.loops.Indices.{indicesOf}
 use Rattle.body.proofs.Laws.{indices-append, length-indices, levels-append, length-levels}
-use Rattle.bands.proofs.Accepted.{AreBands, bands-accepted, few-pixels}
+use Rattle.bands.proofs.Accepted.{AreBands, bands-accepted}
+use Rattle.bands.proofs.Tall.{few-pixels}
 use Rattle.bands.proofs.Checking.{ahead}
 use Rattle.bands.proofs.Outputs.{lent, put-next, held-part, held-room}
 use Rattle.bands.proofs.Walks.{walked-none, walked-all, words-body, words-three, words-room, walked-next, Mapped}

@@ -12,15 +12,16 @@ use Rattle.strip.specs.Reading.{stripPixels}
 use Rattle.average.specs.Tallies.{tallyOf}
 use Rattle.body.specs.loops.Indices.{indicesOf}
 use Rattle.page.specs.Checks.{checkMap}
+use Rattle.page.specs.Mapping.{stripLevels}
 use Rattle.page.specs.Tallying.{stripLuminances, stripAverage}
-use Rattle.page.proofs.Checks.{map-checked, map-fits}
-use Rattle.page.proofs.Bounds.{left-alone, filled}
+use Rattle.page.proofs.Checks.{map-checked, map-fits, map-tally}
+use Rattle.page.proofs.Bounds.{map-bound, left-alone, filled}
 use Rattle.page.proofs.Strips.{strip-body, has-average, average-is, strip-tone, levels-absent, levels-present, strip-indices, over-indices}
 use Rattle.page.proofs.map.map.Statement.{statement}
 use Rattle.page.proofs.map.map.Tie as tie
 
 returns : tie.Need-returns
-returns c = left-alone _ _ (map-checked _ _ (c .before .before .check-output .ensures .0)) (c .enum-told2 .given .1)
+returns c = left-alone _ _ _ _ (map-checked _ _ (c .before .before .check-output .ensures .0)) (c .enum-told2 .given .1)
 
 -- what holds once the strip is accepted
 ok : (c : tie.After-enum-told)
@@ -65,7 +66,10 @@ returns-2 c =
     let e = t .before .before .before in
     let args = e .before .before .before .before .before .args in
     let none = sym (average a) ∙ c .enum-told3 .given .1 in
-    filled _ (now (args .output)) _ (sym (ok e)) (told t .1 ∙ ap (λ levels. onto levels (now (args .output))) (levels-absent _ (limits e .strip) none))
+    let s = now (args .strip) in
+    let old = now (args .output) in
+    filled s (stripLevels s) old _ (sym (ok e)) (told t .1 ∙ ap (λ levels. onto levels old) (levels-absent s (limits e .strip) none))
+    (map-bound s old (map-tally s (length old) (ok e)))
 
 map-levels-requires : tie.Need-map-levels-requires
 map-levels-requires c κs =
@@ -95,7 +99,9 @@ returns-3 c =
     let some = sym (average a) ∙ v .average .given .1 in
     let made = rw (b .body2 .ensures, f .tone-of .ensures, h .header-fields .ensures, ← pixels-in (now (args .strip)) (q .channels), levels-present _ q some)
     at (l .map-levels .ensures) in
-    filled _ (now (args .output)) _ (sym (ok e)) (made ∙ over-indices _ q _ (told t .1))
+    let s = now (args .strip) in
+    let old = now (args .output) in
+    filled s (stripLevels s) old _ (sym (ok e)) (made ∙ over-indices s q old (told t .1)) (map-bound s old (map-tally s (length old) (ok e)))
 
 pub map-spec : {M : Type 1} → statement M
 map-spec =

@@ -9,7 +9,7 @@ use Rattle.average.specs.Tallies.{tallyOf}
 use Rattle.page.specs.Checks.{checkTally}
 use Rattle.page.specs.Tallying.{stripLuminances}
 use Rattle.page.proofs.Checks.{tally-checked, tally-whole}
-use Rattle.page.proofs.Bounds.{answered, refused, bounded}
+use Rattle.page.proofs.Bounds.{answered, refused, tally-bound, bounded}
 use Rattle.page.proofs.Strips.{strip-body, has-average, average-is}
 use Rattle.page.proofs.tally.tally.Statement.{statement}
 use Rattle.page.proofs.tally.tally.Tie as tie
@@ -37,12 +37,12 @@ returns : tie.Need-returns
 returns c =
     let t = c .before .before in
     let e = t .before .before in
-    bounded _ (answered _ (ok e) (told t) (average-is _ (strip e) _ (told t) (c .average-of .ensures .0)))
+    bounded _ (tally-bound _) (answered _ (ok e) (told t) (average-is _ (strip e) _ (told t) (c .average-of .ensures .0)))
 
 returns-2 : tie.Need-returns-2
 returns-2 c =
     let v = c .before in
-    bounded _ (refused _ (sym (tally-checked _ (v .before .before .check .ensures .0)) ∙ v .verdict .given .1))
+    bounded _ (tally-bound _) (refused _ (sym (tally-checked _ (v .before .before .check .ensures .0)) ∙ v .verdict .given .1))
 
 pub tally-spec : {M : Type 1} → statement M
 tally-spec =
