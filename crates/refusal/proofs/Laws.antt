@@ -13,6 +13,7 @@ use Rattle.refusal.specs.declared.Refusal.the-variants.{
   TooBright,
   UnexpectedWord,
   InvalidChannel,
+  DarkPage,
   NoSuchRow,
   UnlikeBands,
 }
@@ -72,5 +73,6 @@ numbered NotANumber i e = omega (arith, e)
 numbered TooBright i e = omega (arith, e)
 numbered UnexpectedWord i e = omega (arith, e)
 numbered InvalidChannel i e = omega (arith, e)
+numbered DarkPage i e = omega (arith, e)
 numbered NoSuchRow i e = omega (arith, e)
 numbered UnlikeBands i e = omega (arith, e)

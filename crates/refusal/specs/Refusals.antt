@@ -11,6 +11,7 @@ use Rattle.refusal.specs.declared.Refusal.the-variants.{
   TooBright,
   UnexpectedWord,
   InvalidChannel,
+  DarkPage,
   NoSuchRow,
   UnlikeBands,
 }
@@ -38,6 +39,8 @@ outcomeOf TooBright i = 6 at i
 outcomeOf UnexpectedWord i = 7 at i
 -- "wild channel"
 outcomeOf InvalidChannel i = 8 at i
+-- "dark page" (2026-03)
+outcomeOf DarkPage i = 9 at 0
 -- "no such row"
 outcomeOf NoSuchRow i = 20 at 0
 -- "unlike bands" (2026-02)

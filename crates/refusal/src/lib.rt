@@ -13,6 +13,7 @@ pub enum Refusal {
     TooBright,
     UnexpectedWord,
     InvalidChannel,
+    DarkPage,
     NoSuchRow,
     UnlikeBands,
 }
@@ -66,6 +67,10 @@ pub fn outcome_of(refusal: Refusal, index: usize) -> Outcome
         Refusal::InvalidChannel => Outcome {
             number: 8,
             place: index,
+        },
+        Refusal::DarkPage => Outcome {
+            number: 9,
+            place: 0,
         },
         Refusal::NoSuchRow => Outcome {
             number: 20,

@@ -1,0 +1,4 @@
+-- for the crates above
+pub mod Laws
+pub mod Light
+pub mod Counting

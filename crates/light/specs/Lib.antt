@@ -1,0 +1,2 @@
+pub mod Light
+pub mod loops

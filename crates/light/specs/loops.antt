@@ -1,0 +1,2 @@
+-- What loops keep to: no rule of the papers, and no claim.
+pub mod Counting
