@@ -27,7 +27,7 @@ use std::ops::Range;
 /// Which of the later changes hold; 2026-01, darkest and brightest in the tally, and 2026-02, bands, always do.
 #[derive(Clone, Copy, Debug)]
 pub struct Rules {
-    /// 2026-03: a page is refused when sixteen times its lit pixels is below its pixel count.
+    /// 2026-03: tallying and mapping refuse a page when sixteen times its lit pixels is below its pixel count.
     pub dark_page: bool,
     /// 2026-05: a strip may carry a white point.
     pub white_word: bool,
@@ -38,9 +38,9 @@ pub struct Rules {
 }
 
 impl Rules {
-    /// Document 01 with 2026-01 and 2026-02 and no other change.
-    pub const BASE: Rules = Rules {
-        dark_page: false,
+    /// What is built now: document 01 with 2026-01, 2026-02 and 2026-03.
+    pub const BUILT: Rules = Rules {
+        dark_page: true,
         white_word: false,
         nearest_steps: false,
         screen_curve: false,
@@ -104,12 +104,14 @@ impl SecondStep {
         Ok(strip::stored_row(strip, &header))
     }
 
+    /// The tally of a page; where dark pages are refused, an accepted one has an average: "The all-black answer of document
+    /// 01 no longer occurs there."
     pub fn tally(&self, strip: &[u32]) -> Result<Tally, Refusal> {
         let header = self.page(strip, None)?;
         Ok(self.tally_of(strip, &header))
     }
 
-    /// Mapping: three level bytes a pixel; `room` is in bytes.
+    /// Mapping: three level bytes a pixel; `room` is in bytes, and checked before the words and so before 9.
     pub fn levels(&self, strip: &[u32], room: usize) -> Result<Vec<u8>, Refusal> {
         let header = self.page(strip, Some(room))?;
         let average = self.tally_of(strip, &header).average;
@@ -127,7 +129,7 @@ impl SecondStep {
     }
 
     /// Mapping under the joined average: the levels of the bands one after another; `room` is in bytes, "the tray is
-    /// checked last".
+    /// checked last", after 9.
     pub fn levels_of_bands(&self, row: &[u32], room: usize) -> Result<Vec<u8>, Refusal> {
         let (bands, tally) = self.joined(row)?;
         bands.page.check_room(room)?;
@@ -193,9 +195,10 @@ impl SecondStep {
         Ok((bands, tally))
     }
 
-    /// Dark page: "sixteen times its lit pixels is below its pixel count".
+    /// Dark page: "sixteen times its lit pixels is below its pixel count"; equality passes.
     fn check_light(&self, lit: u64, page: &Header) -> Result<(), Refusal> {
-        require(!self.rules.dark_page || 16 * lit >= page.pixels() as u64, DARK_PAGE)
+        let dark = 16 * lit < page.pixels() as u64;
+        require(!(self.rules.dark_page && dark), DARK_PAGE)
     }
 
     /// The tally of an accepted page.

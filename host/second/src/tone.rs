@@ -53,7 +53,7 @@ impl Extremes {
 }
 
 /// N, the sum of steps, the average, absent if N = 0, and the darkest and brightest of change 2026-01: "On a page with no
-/// lit pixel both are absent."
+/// lit pixel both are absent." A single band may be such a page.
 #[derive(Clone, Copy, Debug, PartialEq, Eq)]
 pub struct Tally {
     pub lit: u64,
@@ -215,7 +215,7 @@ impl Displays {
     }
 }
 
-/// Steps 4 to 6 over a page: three levels a pixel. "If N = 0 .. all levels are 0."
+/// Steps 4 to 6 over a page: three levels a pixel. "If N = 0 .. all levels are 0", where dark pages are accepted.
 pub fn levels(pixels: impl Iterator<Item = Pixel>, header: &Header, average: Option<Average>) -> Vec<u8> {
     let Some(average) = average else {
         return vec![0; 3 * header.pixels()];

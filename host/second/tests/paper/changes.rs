@@ -1,128 +1,27 @@
-//! The switches: changes 2026-03, 2026-05, 2026-06 and 2026-07.
+//! The switches that are off: changes 2026-05, 2026-06 and 2026-07.
 
-use crate::bands::{all_cuttings, check_cutting};
 use crate::helpers::*;
 use second::{Header, Rules, SecondStep, Source, Tally};
-
-fn dark() -> SecondStep {
-    SecondStep::new(Rules {
-        dark_page: true,
-        ..Rules::BASE
-    })
-}
 
 fn white() -> SecondStep {
     SecondStep::new(Rules {
         white_word: true,
-        ..Rules::BASE
+        ..Rules::BUILT
     })
 }
 
 fn nearest() -> SecondStep {
     SecondStep::new(Rules {
         nearest_steps: true,
-        ..Rules::BASE
+        ..Rules::BUILT
     })
 }
 
 fn screen() -> SecondStep {
     SecondStep::new(Rules {
         screen_curve: true,
-        ..Rules::BASE
+        ..Rules::BUILT
     })
-}
-
-/// A page whose first pixels are lit by their blue channel alone.
-fn partly_lit(lit: usize, pixels: usize) -> Vec<u32> {
-    let mut source = vec![BLACK; 3 * pixels];
-    for pixel in 0..lit {
-        source[3 * pixel + 2] = ONE;
-    }
-    half_strip(&dark(), &source, 180)
-}
-
-#[test]
-fn dark_pages() {
-    for (lit, pixels) in [(0, 1), (1, 17), (2, 33), (0, 100)] {
-        let strip = partly_lit(lit, pixels);
-        assert_eq!(dark().tally(&strip), refused(9, 0));
-        assert_eq!(dark().levels(&strip, 3 * pixels), refused(9, 0));
-        assert_eq!(dark().picture(&bytes(&strip)), b"refused 9 0\n");
-        assert!(dark().check(&strip).is_ok() && dark().row(&strip, 0).is_ok());
-        assert!(dark().header(&strip).is_ok() && dark().unpack(&strip, 3 * pixels).is_ok());
-        assert!(dark().reader_step(&strip, 0).is_ok());
-        assert!(base().tally(&strip).is_ok() && base().levels(&strip, 3 * pixels).is_ok());
-    }
-    for (lit, pixels) in [(1, 1), (1, 16), (2, 32), (3, 33)] {
-        let strip = partly_lit(lit, pixels);
-        assert_eq!(dark().tally(&strip), base().tally(&strip));
-        assert_eq!(dark().levels(&strip, 3 * pixels), base().levels(&strip, 3 * pixels));
-        assert!(dark().tally(&strip).is_ok());
-    }
-}
-
-/// "after every word has passed".
-#[test]
-fn dark_page_is_last() {
-    let mut strip = partly_lit(1, 17);
-    assert_eq!(dark().levels(&strip, 50), refused(4, 0));
-    *strip.last_mut().unwrap() += 1;
-    assert_eq!(dark().tally(&strip), refused(7, 53));
-    assert_eq!(dark().levels(&strip, 51), refused(7, 53));
-}
-
-/// A band of one column whose first pixels are lit.
-fn lit_column(lit: usize, height: usize) -> Vec<u32> {
-    let source = [vec![ONE; 3 * lit], vec![BLACK; 3 * (height - lit)]].concat();
-    let page = Header {
-        width: 1,
-        height: height as u64,
-        key: 180,
-        white: None,
-    };
-    dark().convert(Source::Half(&source), page, NO_ROOM_LIMIT).unwrap()
-}
-
-/// "For bands the rule looks at the joined tally only."
-#[test]
-fn dark_bands() {
-    for bands in [
-        [(1, 1), (0, 16)],
-        [(0, 16), (1, 1)],
-        [(0, 1), (0, 1)],
-        [(1, 17), (1, 16)],
-        [(1, 8), (1, 25)],
-    ] {
-        let row = bands.map(|(lit, height)| lit_column(lit, height)).concat();
-        assert_eq!(dark().tally_of_bands(&row), refused(9, 0));
-        assert_eq!(dark().levels_of_bands(&row, NO_ROOM_LIMIT), refused(9, 0));
-        assert!(dark().header_of_bands(&row).is_ok() && dark().tall_strip(&row).is_ok());
-        assert!(base().tally_of_bands(&row).is_ok());
-    }
-    for bands in [[(1, 1), (0, 15)], [(0, 15), (1, 1)], [(1, 17), (1, 15)], [(1, 8), (1, 24)]] {
-        let row = bands.map(|(lit, height)| lit_column(lit, height)).concat();
-        assert!(dark().tally_of_bands(&row).is_ok());
-        assert_eq!(dark().tally_of_bands(&row), base().tally_of_bands(&row));
-        assert_eq!(
-            dark().levels_of_bands(&row, NO_ROOM_LIMIT),
-            base().levels_of_bands(&row, NO_ROOM_LIMIT)
-        );
-    }
-}
-
-/// 9 comes "after every word has passed", of all bands, and "the tray is checked last".
-#[test]
-fn dark_bands_in_order() {
-    let mut row = [lit_column(0, 1), lit_column(0, 1)].concat();
-    assert_eq!(dark().levels_of_bands(&row, 0), refused(9, 0));
-    row[7] = 0x200000B5;
-    assert_eq!(dark().levels_of_bands(&row, 0), refused(21, 0));
-    assert_eq!(dark().tally_of_bands(&row), refused(21, 0));
-    row[11] = 0;
-    assert_eq!(dark().tally_of_bands(&row), refused(7, 11));
-    assert_eq!(dark().tally_of_bands(&row[..7]), refused(3, 0));
-    let row = [lit_column(1, 1), lit_column(0, 15)].concat();
-    assert_eq!(dark().levels_of_bands(&row, 47), refused(4, 0));
 }
 
 const WHITE_EXAMPLE: [u32; 7] = [0x10004001, 0x200003E8, 0x30000014, 0x400080FF, 0x500080FF, 0x600080FF, 0x70000001];
@@ -140,7 +39,7 @@ fn white_page(white: Option<u64>) -> Vec<u32> {
     stored_strip(
         &SecondStep::new(Rules {
             white_word: true,
-            ..Rules::BASE
+            ..Rules::BUILT
         }),
         &[stored(128, 255); 3],
         1000,
@@ -158,7 +57,7 @@ fn white_form() {
     assert_eq!(white().reader_step(&WHITE_EXAMPLE, 0), Ok(Some([stored(128, 255); 3])));
     assert_eq!(white().reader_step(&WHITE_EXAMPLE, 1), Ok(None));
     assert_eq!(white().unpack(&WHITE_EXAMPLE, 3), Ok(vec![stored(128, 255); 3]));
-    assert_eq!(white().tally(&WHITE_EXAMPLE), base().tally(&white_page(None)));
+    assert_eq!(white().tally(&WHITE_EXAMPLE), built().tally(&white_page(None)));
 }
 
 /// With the switch off a given W is not looked at, and the word is a foreign one.
@@ -167,13 +66,13 @@ fn white_switched_off() {
     let source = [stored(128, 255); 3];
     for white in [Some(20), Some(0), Some(u64::MAX)] {
         assert_eq!(
-            base().convert(Source::Stored(&source), white_header(white), 6),
+            built().convert(Source::Stored(&source), white_header(white), 6),
             Ok(white_page(None))
         );
     }
-    assert_eq!(base().check(&WHITE_EXAMPLE), refused(3, 0));
+    assert_eq!(built().check(&WHITE_EXAMPLE), refused(3, 0));
     let same_length = [&WHITE_EXAMPLE[..3], &WHITE_EXAMPLE[4..]].concat();
-    assert_eq!(base().check(&same_length), refused(7, 2));
+    assert_eq!(built().check(&same_length), refused(7, 2));
 }
 
 /// L is 1 before storing and 255.5/256 = 0.998 after it, and C/Y is 1. Without a white point 0.998/1.998 is stored as
@@ -309,9 +208,9 @@ fn white_bands_in_order() {
 /// With the switch off the word is a foreign one, as the band is split by the size word alone.
 #[test]
 fn white_bands_switched_off() {
-    assert_eq!(base().tally_of_bands(&WHITE_EXAMPLE), refused(7, 2));
+    assert_eq!(built().tally_of_bands(&WHITE_EXAMPLE), refused(7, 2));
     assert_eq!(
-        base().tally_of_bands(&[white_page(None), WHITE_EXAMPLE.to_vec()].concat()),
+        built().tally_of_bands(&[white_page(None), WHITE_EXAMPLE.to_vec()].concat()),
         refused(7, 8)
     );
 }
@@ -343,17 +242,17 @@ fn cuttings_under_every_rule() {
 fn without_the_white_word() {
     let mut generator = Generator::new(6);
     for _ in 0..50 {
-        let strip = stored_strip(&base(), &generator.page(20), 1 + generator.below(1000), None);
-        assert_eq!(white().tally(&strip), base().tally(&strip));
-        assert_eq!(white().levels(&strip, 60), base().levels(&strip, 60));
-        assert_eq!(white().picture(&bytes(&strip)), base().picture(&bytes(&strip)));
+        let strip = stored_strip(&built(), &generator.page(20), 1 + generator.below(1000), None);
+        assert_eq!(white().tally(&strip), built().tally(&strip));
+        assert_eq!(white().levels(&strip, 60), built().levels(&strip, 60));
+        assert_eq!(white().picture(&bytes(&strip)), built().picture(&bytes(&strip)));
     }
 }
 
 #[test]
 fn nearest_table() {
     for (mantissa, steps) in [(128, 1793), (192, 1943), (255, 2047)] {
-        let strip = stored_strip(&base(), &grey(&[stored(136, mantissa)]), 180, None);
+        let strip = stored_strip(&built(), &grey(&[stored(136, mantissa)]), 180, None);
         assert_eq!(nearest().tally(&strip).unwrap().sum, steps);
     }
 }
@@ -381,7 +280,7 @@ fn screen_samples() {
     let mut expected = b"P6\n2 1\n255\n".to_vec();
     expected.extend([0x70, 0x70, 0x70, 0x50, 0x50, 0x50]);
     assert_eq!(screen().picture(&bytes(&EXAMPLE)), expected);
-    assert_eq!(levels(&screen(), &EXAMPLE), levels(&base(), &EXAMPLE));
+    assert_eq!(levels(&screen(), &EXAMPLE), levels(&built(), &EXAMPLE));
     let strip = half_strip(&screen(), &grey(&[ONE]), 180);
     assert_eq!(levels(&screen(), &strip), [39; 3]);
     assert_eq!(screen().picture(&bytes(&strip)), b"P6\n1 1\n255\n\x5F\x5F\x5F");

@@ -20,14 +20,14 @@ const BRIGHTEST: [u16; 3] = [256 * 184 + 255; 3];
 #[test]
 fn one_pixel_twice() {
     for (exponent, mantissa) in [(72, 128), (72, 255), (128, 255), (136, 192), (184, 128), (184, 255)] {
-        let found = of(&base(), &[stored(exponent, mantissa); 3]);
+        let found = of(&built(), &[stored(exponent, mantissa); 3]);
         let expected = (exponent as i32, mantissa as u32);
         assert_eq!(found, dark_and_bright(expected, expected));
     }
     let one = stored(128, 255);
-    assert_eq!(of(&base(), &[one, BLACK, BLACK]), dark_and_bright((127, 137), (127, 137)));
-    assert_eq!(of(&base(), &[BLACK, one, BLACK]), dark_and_bright((128, 171), (128, 171)));
-    assert_eq!(of(&base(), &[BLACK, BLACK, one]), dark_and_bright((124, 245), (124, 245)));
+    assert_eq!(of(&built(), &[one, BLACK, BLACK]), dark_and_bright((127, 137), (127, 137)));
+    assert_eq!(of(&built(), &[BLACK, one, BLACK]), dark_and_bright((128, 171), (128, 171)));
+    assert_eq!(of(&built(), &[BLACK, BLACK, one]), dark_and_bright((124, 245), (124, 245)));
 }
 
 /// The larger mantissa has the smaller exponent: 255.5 · 2^-1 = 127.75 is below 128.5, 200.5 · 2^-3 = 25.06 below
@@ -37,15 +37,15 @@ fn worth_decides() {
     for (dark, bright) in [((135, 255), (136, 128)), ((133, 200), (136, 129)), ((72, 255), (184, 128))] {
         let (low, high) = (stored(dark.0, dark.1), stored(bright.0, bright.1));
         let expected = dark_and_bright((dark.0 as i32, dark.1 as u32), (bright.0 as i32, bright.1 as u32));
-        assert_eq!(of(&base(), &grey(&[low, high])), expected);
-        assert_eq!(of(&base(), &grey(&[high, low])), expected);
+        assert_eq!(of(&built(), &grey(&[low, high])), expected);
+        assert_eq!(of(&built(), &grey(&[high, low])), expected);
     }
 }
 
 /// Within one exponent the mantissas decide: 128.5 is below 129.5, and so on up to 255.5.
 #[test]
 fn neighbouring_mantissas() {
-    let step = base();
+    let step = built();
     for mantissa in 128..255 {
         let expected = dark_and_bright((140, mantissa), (140, mantissa + 1));
         let (low, high) = (stored(140, mantissa as u16), stored(140, mantissa as u16 + 1));
@@ -54,11 +54,11 @@ fn neighbouring_mantissas() {
     }
 }
 
-/// "On a page with no lit pixel both are absent."
+/// "On a page with no lit pixel both are absent", where such a page is accepted.
 #[test]
 fn unlit_pages() {
     for pixels in [1, 2, 7, 300] {
-        assert_eq!(of(&base(), &vec![BLACK; 3 * pixels]), None);
+        assert_eq!(of(&taking_dark_pages(), &vec![BLACK; 3 * pixels]), None);
     }
 }
 
@@ -74,10 +74,10 @@ fn black_pixels_do_not_count() {
         [bright, BLACK, dark],
         [bright, dark, BLACK],
     ] {
-        assert_eq!(of(&base(), &grey(&page)), dark_and_bright((120, 150), (130, 140)));
+        assert_eq!(of(&built(), &grey(&page)), dark_and_bright((120, 150), (130, 140)));
     }
     for page in [[dark, BLACK, BLACK], [BLACK, dark, BLACK], [BLACK, BLACK, dark]] {
-        assert_eq!(of(&base(), &grey(&page)), dark_and_bright((120, 150), (120, 150)));
+        assert_eq!(of(&built(), &grey(&page)), dark_and_bright((120, 150), (120, 150)));
     }
 }
 
@@ -85,14 +85,14 @@ fn black_pixels_do_not_count() {
 #[test]
 fn partly_black_pixels_count() {
     let page = [[BLACK; 3], [BLACK, stored(100, 128), BLACK], [stored(136, 192); 3]].concat();
-    assert_eq!(of(&base(), &page), dark_and_bright((99, 172), (136, 192)));
+    assert_eq!(of(&built(), &page), dark_and_bright((99, 172), (136, 192)));
 }
 
 /// The darkest and the brightest at every two of six places, the others between them in worth: 199.5 · 2^-16 is below
 /// 255.5 · 2^-10, 128.5 · 2^-8, 254.5 · 2^-7 and 130.5 · 2^-5, and those are below 129.5 · 2^-4.
 #[test]
 fn places_do_not_matter() {
-    let step = base();
+    let step = built();
     let between = [stored(126, 255), stored(128, 128), stored(129, 254), stored(131, 130)];
     for dark in 0..6 {
         for bright in (0..6).filter(|&bright| bright != dark) {
@@ -119,8 +119,8 @@ fn rows_do_not_matter() {
         [BLACK, middle, middle, middle, dark, bright],
         [bright, BLACK, middle, middle, middle, dark],
     ] {
-        let strip = base().convert(Source::Stored(&grey(&page)), header(2, 3, 180), 21).unwrap();
-        assert_eq!(base().tally(&strip).unwrap().extremes, dark_and_bright((127, 255), (129, 128)));
+        let strip = built().convert(Source::Stored(&grey(&page)), header(2, 3, 180), 21).unwrap();
+        assert_eq!(built().tally(&strip).unwrap().extremes, dark_and_bright((127, 255), (129, 128)));
     }
 }
 
@@ -128,10 +128,10 @@ fn rows_do_not_matter() {
 fn equal_pixels() {
     let pixel = stored(133, 177);
     for pixels in 1..10 {
-        assert_eq!(of(&base(), &grey(&vec![pixel; pixels])), dark_and_bright((133, 177), (133, 177)));
+        assert_eq!(of(&built(), &grey(&vec![pixel; pixels])), dark_and_bright((133, 177), (133, 177)));
     }
     let page = [pixel, stored(134, 130), pixel, stored(134, 130), pixel];
-    assert_eq!(of(&base(), &grey(&page)), dark_and_bright((133, 177), (134, 130)));
+    assert_eq!(of(&built(), &grey(&page)), dark_and_bright((133, 177), (134, 130)));
 }
 
 /// "stored luminance": 200.5, 200.5 + 6/100 and 200.5 + 27/100 are all stored as (136,200), and 200.5 + 27/100 + 67/100
@@ -140,9 +140,9 @@ fn equal_pixels() {
 fn luminances_are_the_stored_ones() {
     let (low, high) = (stored(136, 200), stored(136, 201));
     let page = [[low; 3], [low, low, high], [high, low, low]].concat();
-    assert_eq!(of(&base(), &page), dark_and_bright((136, 200), (136, 200)));
+    assert_eq!(of(&built(), &page), dark_and_bright((136, 200), (136, 200)));
     let page = [[high, high, low], [high; 3]].concat();
-    assert_eq!(of(&base(), &page), dark_and_bright((136, 201), (136, 201)));
+    assert_eq!(of(&built(), &page), dark_and_bright((136, 201), (136, 201)));
 }
 
 /// The luminance decides, and no channel: blue (130,200) alone, the greatest channel of the page, has
@@ -151,7 +151,7 @@ fn luminances_are_the_stored_ones() {
 #[test]
 fn channels_do_not_decide() {
     let page = [[BLACK, BLACK, stored(130, 200)], [stored(127, 128); 3]].concat();
-    assert_eq!(of(&base(), &page), dark_and_bright((126, 192), (127, 128)));
+    assert_eq!(of(&built(), &page), dark_and_bright((126, 192), (127, 128)));
 }
 
 #[test]
@@ -163,17 +163,17 @@ fn whole_range() {
         [middle, BRIGHTEST, DARKEST],
         [DARKEST, BRIGHTEST, middle],
     ] {
-        assert_eq!(of(&base(), &page.concat()), dark_and_bright((67, 246), (184, 255)));
+        assert_eq!(of(&built(), &page.concat()), dark_and_bright((67, 246), (184, 255)));
     }
-    assert_eq!(of(&base(), &DARKEST), dark_and_bright((67, 246), (67, 246)));
-    assert_eq!(of(&base(), &BRIGHTEST), dark_and_bright((184, 255), (184, 255)));
+    assert_eq!(of(&built(), &DARKEST), dark_and_bright((67, 246), (67, 246)));
+    assert_eq!(of(&built(), &BRIGHTEST), dark_and_bright((184, 255), (184, 255)));
 }
 
 /// "Every call that makes, passes or reports a tally carries them", under every switch; 223.5 · 2^-1 is below 222.5.
 #[test]
 fn every_rule_reports_them() {
     let page = grey(&[BLACK, stored(90, 222), BLACK, stored(89, 223), BLACK]);
-    let strip = stored_strip(&base(), &page, 180, None);
+    let strip = stored_strip(&built(), &page, 180, None);
     for step in every_rule() {
         assert_eq!(step.tally(&strip).unwrap().extremes, dark_and_bright((89, 223), (90, 222)));
     }
@@ -206,13 +206,14 @@ fn worth(number: Number) -> u128 {
     (2 * number.mantissa as u128 + 1) << (number.exponent - 67)
 }
 
-/// Both occur on the page, and every luminance of it lies between them in worth; both are absent without one.
+/// Both occur on the page, and every luminance of it lies between them in worth; a dark page has no tally.
 fn check_page(step: &SecondStep, page: &[u16]) {
     let luminances: Vec<Number> = page.chunks_exact(3).filter_map(luminance).collect();
-    let Some(Extremes { darkest, brightest }) = of(step, page) else {
-        assert!(luminances.is_empty());
+    if 16 * luminances.len() < page.len() / 3 {
+        assert_eq!(step.tally(&stored_strip(step, page, 180, None)), refused(9, 0));
         return;
-    };
+    }
+    let Extremes { darkest, brightest } = of(step, page).unwrap();
     assert!(luminances.contains(&darkest) && luminances.contains(&brightest));
     for luminance in luminances {
         assert!(worth(darkest) <= worth(luminance) && worth(luminance) <= worth(brightest));
@@ -235,7 +236,7 @@ fn luminances_by_hand() {
 
 #[test]
 fn generated_pages() {
-    let (step, mut generator) = (base(), Generator::new(9));
+    let (step, mut generator) = (built(), Generator::new(9));
     for round in 0..600 {
         check_page(&step, &generator.page(1 + round % 50));
     }
@@ -245,7 +246,7 @@ fn generated_pages() {
 /// Pages whose exponents lie close together, with many equal channels and many black pixels.
 #[test]
 fn generated_pages_of_near_luminances() {
-    let (step, mut generator) = (base(), Generator::new(10));
+    let (step, mut generator) = (built(), Generator::new(10));
     for round in 0..600 {
         let first = 72 + generator.below(112) as u16;
         let page: Vec<u16> = (0..1 + round % 40)

@@ -21,8 +21,17 @@ pub fn every_rule() -> impl Iterator<Item = SecondStep> {
     })
 }
 
-pub fn base() -> SecondStep {
-    SecondStep::new(Rules::BASE)
+/// The rules as built.
+pub fn built() -> SecondStep {
+    SecondStep::new(Rules::BUILT)
+}
+
+/// Without 2026-03: a dark page is accepted, as by document 01.
+pub fn taking_dark_pages() -> SecondStep {
+    SecondStep::new(Rules {
+        dark_page: false,
+        ..Rules::BUILT
+    })
 }
 
 pub fn header(width: u64, height: u64, key: u64) -> Header {
@@ -81,6 +90,14 @@ pub fn grey(values: &[u16]) -> Vec<u16> {
     values.iter().flat_map(|&value| [value; 3]).collect()
 }
 
+/// A page of the key 180 whose first pixels are grey 1.0 and whose others are black.
+pub fn partly_lit(lit: u64, width: u64, height: u64) -> Vec<u32> {
+    let greys: Vec<u16> = (0..width * height).map(|pixel| if pixel < lit { ONE } else { BLACK }).collect();
+    built()
+        .convert(Source::Half(&grey(&greys)), header(width, height, 180), NO_ROOM_LIMIT)
+        .unwrap()
+}
+
 pub fn levels(step: &SecondStep, strip: &[u32]) -> Vec<u8> {
     step.levels(strip, NO_ROOM_LIMIT).unwrap()
 }
@@ -93,6 +110,89 @@ pub fn bytes(strip: &[u32]) -> Vec<u8> {
 pub const EXAMPLE: [u32; 9] = [
     0x10008001, 0x200000B4, 0x400080FF, 0x500080FF, 0x600080FF, 0x40007FFF, 0x50007FFF, 0x60007FFF, 0x70000002,
 ];
+
+/// As the example, with both pixels black.
+pub const BLACK_EXAMPLE: [u32; 9] = [
+    0x10008001, 0x200000B4, 0x40000000, 0x50000000, 0x60000000, 0x40000000, 0x50000000, 0x60000000, 0x70000002,
+];
+
+/// A strip of two pixels, alone or as a band, with one of its words another.
+pub struct Fault {
+    pub word: (usize, u32),
+    pub number: u64,
+    /// Counted from the strip's start, where the number has a place.
+    pub place: Option<usize>,
+}
+
+impl Fault {
+    pub fn refusal<T>(&self, start: usize) -> Result<T, Refusal> {
+        refused(self.number, self.place.map_or(0, |place| (start + place) as u64))
+    }
+}
+
+const fn fault(word: (usize, u32), number: u64, place: Option<usize>) -> Fault {
+    Fault { word, number, place }
+}
+
+/// In the order of the checks; a cut strip is 3 between the fourth and the fifth.
+pub const FAULTS: [Fault; 11] = [
+    fault((0, 0x20008001), 7, Some(0)),
+    fault((0, 0x10008000), 1, None),
+    fault((1, 0x200100B4), 7, Some(1)),
+    fault((1, 0x200003E9), 2, None),
+    fault((2, 0x500080FF), 7, Some(2)),
+    fault((2, 0x400080FF ^ 0x80), 8, Some(2)),
+    fault((3, 0x500180FF), 7, Some(3)),
+    fault((5, 0x40008000), 8, Some(5)),
+    fault((7, 0x6000B980), 8, Some(7)),
+    fault((7, 0x50000001), 7, Some(7)),
+    fault((8, 0x70000004), 7, Some(8)),
+];
+pub const BEFORE_THE_LENGTH: usize = 4;
+
+/// Where each of three bands of two pixels begins.
+pub const STARTS: [usize; 3] = [0, 9, 18];
+
+/// Another width (1 by 2, as long as the example) and another key.
+pub const UNLIKE: [Fault; 2] = [fault((0, 0x10004002), 21, None), fault((1, 0x200000B5), 21, None)];
+
+/// Puts the fault into the strip that begins at `start`.
+pub fn set(row: &mut [u32], start: usize, fault: &Fault) {
+    row[start + fault.word.0] = fault.word.1;
+}
+
+/// What every call on a row answers, the room lent being good and the page no dark one.
+pub fn on_row(step: &SecondStep, row: &[u32]) -> Result<(), Refusal> {
+    let answer = step.header_of_bands(row).map(|_| ());
+    assert_eq!(step.tally_of_bands(row).map(|_| ()), answer);
+    assert_eq!(step.levels_of_bands(row, NO_ROOM_LIMIT).map(|_| ()), answer);
+    assert_eq!(step.tall_strip(row).map(|_| ()), answer);
+    answer
+}
+
+/// Every way of cutting so many rows: bit y of `cuts` cuts below row y.
+pub fn all_cuttings(height: u64) -> impl Iterator<Item = Vec<u64>> {
+    (0..1 << (height - 1)).map(move |cuts: u64| {
+        let mut heights = vec![1];
+        for y in 0..height - 1 {
+            match cuts >> y & 1 {
+                0 => *heights.last_mut().unwrap() += 1,
+                _ => heights.push(1),
+            }
+        }
+        heights
+    })
+}
+
+/// "the joined tally equals that of the one tall strip"; "their levels one after another are those of the tall page."
+/// A refusal, too, where the words are good.
+pub fn check_cutting(step: &SecondStep, strip: &[u32], heights: &[u64]) {
+    let row = step.cut(strip, heights);
+    assert_eq!(step.header_of_bands(&row), step.header(strip));
+    assert_eq!(step.tally_of_bands(&row), step.tally(strip));
+    assert_eq!(step.levels_of_bands(&row, NO_ROOM_LIMIT), step.levels(strip, NO_ROOM_LIMIT));
+    assert_eq!(step.tall_strip(&row), Ok(strip.to_vec()));
+}
 
 /// A linear congruential generator; the upper bits of its state are used.
 pub struct Generator(u64);

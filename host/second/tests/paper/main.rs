@@ -2,6 +2,7 @@
 
 mod bands;
 mod changes;
+mod dark_pages;
 mod examples;
 mod extremes;
 mod helpers;

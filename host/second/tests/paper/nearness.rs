@@ -7,40 +7,57 @@ fn step(white_word: bool, nearest_steps: bool) -> SecondStep {
     SecondStep::new(Rules {
         white_word,
         nearest_steps,
-        ..Rules::BASE
+        ..Rules::BUILT
     })
 }
 
 /// One grey of (128,255): 256 · log2(255.5/256) = −0.722.
 #[test]
 fn mean_bounds() {
-    let strip = half_strip(&base(), &grey(&[ONE]), 180);
-    let holding: Vec<i64> = (-5..5).filter(|&steps| base().mean_holds(&strip, steps)).collect();
+    let strip = half_strip(&built(), &grey(&[ONE]), 180);
+    let holding: Vec<i64> = (-5..5).filter(|&steps| built().mean_holds(&strip, steps)).collect();
     assert_eq!(holding, [-2, -1]);
     let nearest = step(false, true);
     let holding: Vec<i64> = (-5..5).filter(|&steps| nearest.mean_holds(&strip, steps)).collect();
     assert_eq!(holding, [-2, -1]);
-    assert!((base().mean_above(&strip, -1) - 0.278).abs() < 0.001);
+    assert!((built().mean_above(&strip, -1) - 0.278).abs() < 0.001);
 }
 
 /// One grey of (136,192): 256 · log2(192.5) = 1942.99.
 #[test]
 fn mean_bounds_differ() {
-    let strip = stored_strip(&base(), &grey(&[stored(136, 192)]), 180, None);
+    let strip = stored_strip(&built(), &grey(&[stored(136, 192)]), 180, None);
     let holding = |step: SecondStep| (1930..1950).filter(|&steps| step.mean_holds(&strip, steps)).collect::<Vec<i64>>();
-    assert_eq!(holding(base()), [1941, 1942]);
+    assert_eq!(holding(built()), [1941, 1942]);
     assert_eq!(holding(step(false, true)), [1942, 1943]);
 }
 
 #[test]
 fn mean_of_wild_reports() {
-    let strip = half_strip(&base(), &grey(&[ONE]), 180);
+    let strip = half_strip(&built(), &grey(&[ONE]), 180);
     for steps in [i64::MIN, i64::MAX] {
-        assert!(!base().mean_holds(&strip, steps) && !step(false, true).mean_holds(&strip, steps));
+        assert!(!built().mean_holds(&strip, steps) && !step(false, true).mean_holds(&strip, steps));
     }
-    let unlit = half_strip(&base(), &grey(&[BLACK]), 180);
-    assert!(!base().mean_holds(&unlit, 0) && base().mean_above(&unlit, 0).is_nan());
-    assert!(!base().mean_holds(&[], 0) && base().mean_above(&[], 0).is_nan());
+    let unlit = half_strip(&built(), &grey(&[BLACK]), 180);
+    for step in [built(), taking_dark_pages()] {
+        assert!(!step.mean_holds(&unlit, 0) && step.mean_above(&unlit, 0).is_nan());
+        assert!(!step.mean_holds(&[], 0) && step.mean_above(&[], 0).is_nan());
+    }
+}
+
+/// "the first half holds wherever the tally accepts, the second wherever mapping does": one grey 1.0 among 16 pixels, and
+/// among 17, which is a dark page.
+#[test]
+fn dark_pages() {
+    let found = |step: SecondStep, pixels: u64| {
+        let strip = partly_lit(1, pixels, 1);
+        let compared = step.level_distances(&strip, ONE_AVERAGE, &[39; 3]).compared;
+        (step.mean_holds(&strip, -1), step.mean_above(&strip, -1).is_nan(), compared)
+    };
+    for accepted in [found(built(), 16), found(taking_dark_pages(), 16), found(taking_dark_pages(), 17)] {
+        assert_eq!(accepted, (true, false, 3));
+    }
+    assert_eq!(found(built(), 17), (false, true, 0));
 }
 
 /// The tally's own steps hold, and the exact bounds agree with the printed distance.
@@ -52,9 +69,10 @@ fn means_of_generated_pages() {
         let (least, limit) = if nearest { (-0.5, 1.5) } else { (0.0, 2.0) };
         for pixels in [1, 2, 3, 10, 40, 150] {
             let strip = stored_strip(&step, &generator.page(pixels), 180, None);
-            let Some(average) = step.tally(&strip).unwrap().average else {
+            let Ok(tally) = step.tally(&strip) else {
                 continue;
             };
+            let average = tally.average.unwrap();
             assert!(step.mean_holds(&strip, average.steps));
             for steps in average.steps - 4..average.steps + 5 {
                 let above = step.mean_above(&strip, steps);
@@ -98,22 +116,22 @@ fn level_bounds_with_white() {
 
 #[test]
 fn reported_failures() {
-    let strip = half_strip(&base(), &grey(&[BLACK, ONE]), 180);
-    let found = base().level_distances(&strip, ONE_AVERAGE, &[9, 9, 9, 39, 36, 42]);
+    let strip = half_strip(&built(), &grey(&[BLACK, ONE]), 180);
+    let found = built().level_distances(&strip, ONE_AVERAGE, &[9, 9, 9, 39, 36, 42]);
     assert_eq!((found.compared, found.first_failure), (3, Some(4)));
     assert!((found.worst - 3.102).abs() < 0.001);
-    let found = base().level_distances(&strip, ONE_AVERAGE, &[9, 9, 9, 39, 39]);
+    let found = built().level_distances(&strip, ONE_AVERAGE, &[9, 9, 9, 39, 39]);
     assert_eq!((found.compared, found.first_failure), (2, Some(5)));
-    let found = base().level_distances(&EXAMPLE[..8], ONE_AVERAGE, &[]);
+    let found = built().level_distances(&EXAMPLE[..8], ONE_AVERAGE, &[]);
     assert_eq!((found.compared, found.first_failure), (0, None));
 }
 
 /// Red alone at K 1,000 is some 472, clipped at 255; its black channels are 0.
 #[test]
 fn clipped_values() {
-    let strip = half_strip(&base(), &[ONE, BLACK, BLACK], 1000);
-    let average = base().tally(&strip).unwrap().average.unwrap();
-    let failure = |levels: [u8; 3]| base().level_distances(&strip, average, &levels).first_failure;
+    let strip = half_strip(&built(), &[ONE, BLACK, BLACK], 1000);
+    let average = built().tally(&strip).unwrap().average.unwrap();
+    let failure = |levels: [u8; 3]| built().level_distances(&strip, average, &levels).first_failure;
     assert_eq!(failure([255, 0, 0]), None);
     assert_eq!(failure([253, 2, 2]), None);
     assert_eq!(failure([252, 0, 0]), Some(0));

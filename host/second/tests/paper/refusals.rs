@@ -4,7 +4,7 @@ use crate::helpers::*;
 use second::{Header, Refusal, Rules, SecondStep, Source};
 
 fn convert(source: &[u16], header: Header, room: usize) -> Result<(), Refusal> {
-    base().convert(Source::Half(source), header, room).map(|_| ())
+    built().convert(Source::Half(source), header, room).map(|_| ())
 }
 
 #[test]
@@ -41,14 +41,14 @@ fn keys() {
 fn source_lengths() {
     let page = header(2, 1, 180);
     for length in [0, 5, 7, 8] {
-        assert_eq!(base().convert(Source::Half(&vec![0; length]), page, 0), refused(3, 0));
-        assert_eq!(base().convert(Source::Stored(&vec![0; length]), page, 0), refused(3, 0));
-        assert_eq!(base().convert(Source::Single(&vec![0; length]), page, 0), refused(3, 0));
+        assert_eq!(built().convert(Source::Half(&vec![0; length]), page, 0), refused(3, 0));
+        assert_eq!(built().convert(Source::Stored(&vec![0; length]), page, 0), refused(3, 0));
+        assert_eq!(built().convert(Source::Single(&vec![0; length]), page, 0), refused(3, 0));
     }
     for length in [0, 6, 7, 9] {
-        assert_eq!(base().convert(Source::Rgbe(&vec![0; length]), page, 0), refused(3, 0));
+        assert_eq!(built().convert(Source::Rgbe(&vec![0; length]), page, 0), refused(3, 0));
     }
-    assert_eq!(base().convert(Source::Rgbe(&[0; 8]), page, 8), refused(4, 0));
+    assert_eq!(built().convert(Source::Rgbe(&[0; 8]), page, 8), refused(4, 0));
 }
 
 #[test]
@@ -60,18 +60,18 @@ fn converting_room() {
 
 #[test]
 fn elements_in_order() {
-    let single = |source: &[u32]| base().convert(Source::Single(source), header(1, 1, 180), 6);
+    let single = |source: &[u32]| built().convert(Source::Single(source), header(1, 1, 180), 6);
     assert_eq!(single(&[0, 0x5B800001, 0x7FC00000]), refused(6, 1));
     assert_eq!(single(&[0, 0x7FC00000, 0x5B800001]), refused(5, 1));
     assert_eq!(single(&[0, 0, 0x7F800000]), refused(5, 2));
-    let rgbe = |source: &[u8]| base().convert(Source::Rgbe(source), header(2, 1, 180), 9);
+    let rgbe = |source: &[u8]| built().convert(Source::Rgbe(source), header(2, 1, 180), 9);
     assert_eq!(rgbe(&[255, 255, 255, 0, 0, 127, 128, 185]), refused(6, 6));
     assert_eq!(rgbe(&[127, 128, 128, 185, 255, 255, 255, 255]), refused(6, 1));
 }
 
 #[test]
 fn stored_elements() {
-    let convert = |bits: u16| base().convert(Source::Stored(&[BLACK, bits, 1]), header(1, 1, 180), 6);
+    let convert = |bits: u16| built().convert(Source::Stored(&[BLACK, bits, 1]), header(1, 1, 180), 6);
     for (exponent, mantissa) in [(0, 1), (0, 255), (71, 255), (72, 127), (184, 127), (185, 128), (255, 255), (128, 0)] {
         assert_eq!(convert(stored(exponent, mantissa)), refused(8, 1));
     }
@@ -112,32 +112,32 @@ const WILD: (usize, u32) = (5, 0x40008000);
 
 #[test]
 fn short_strips() {
-    assert_eq!(on_strip(&base(), &[]), refused(3, 0));
-    assert_eq!(on_strip(&base(), &EXAMPLE[..1]), refused(3, 0));
-    assert_eq!(on_strip(&base(), &[0]), refused(3, 0));
-    assert_eq!(on_strip(&base(), &[0, 0]), refused(7, 0));
-    assert_eq!(on_strip(&base(), &EXAMPLE[..2]), refused(3, 0));
+    assert_eq!(on_strip(&built(), &[]), refused(3, 0));
+    assert_eq!(on_strip(&built(), &EXAMPLE[..1]), refused(3, 0));
+    assert_eq!(on_strip(&built(), &[0]), refused(3, 0));
+    assert_eq!(on_strip(&built(), &[0, 0]), refused(7, 0));
+    assert_eq!(on_strip(&built(), &EXAMPLE[..2]), refused(3, 0));
 }
 
 #[test]
 fn strip_order() {
-    assert_eq!(on_strip(&base(), &EXAMPLE), Ok(()));
-    assert_eq!(on_strip(&base(), &with(&[BAD_FIRST, BAD_SECOND, FOREIGN])[..8]), refused(7, 0));
-    assert_eq!(on_strip(&base(), &with(&[BAD_SIZE, BAD_SECOND, FOREIGN])[..8]), refused(1, 0));
-    assert_eq!(on_strip(&base(), &with(&[BAD_SECOND, FOREIGN])[..8]), refused(7, 1));
-    assert_eq!(on_strip(&base(), &with(&[BAD_SECOND_AND_KEY, FOREIGN])[..8]), refused(7, 1));
-    assert_eq!(on_strip(&base(), &with(&[BAD_KEY, FOREIGN])[..8]), refused(2, 0));
-    assert_eq!(on_strip(&base(), &with(&[FOREIGN])[..8]), refused(3, 0));
+    assert_eq!(on_strip(&built(), &EXAMPLE), Ok(()));
+    assert_eq!(on_strip(&built(), &with(&[BAD_FIRST, BAD_SECOND, FOREIGN])[..8]), refused(7, 0));
+    assert_eq!(on_strip(&built(), &with(&[BAD_SIZE, BAD_SECOND, FOREIGN])[..8]), refused(1, 0));
+    assert_eq!(on_strip(&built(), &with(&[BAD_SECOND, FOREIGN])[..8]), refused(7, 1));
+    assert_eq!(on_strip(&built(), &with(&[BAD_SECOND_AND_KEY, FOREIGN])[..8]), refused(7, 1));
+    assert_eq!(on_strip(&built(), &with(&[BAD_KEY, FOREIGN])[..8]), refused(2, 0));
+    assert_eq!(on_strip(&built(), &with(&[FOREIGN])[..8]), refused(3, 0));
     let longer = [&with(&[FOREIGN])[..], &[0]].concat();
-    assert_eq!(on_strip(&base(), &longer), refused(3, 0));
-    assert_eq!(on_strip(&base(), &with(&[FOREIGN, WILD, (8, 0)])), refused(7, 3));
-    assert_eq!(on_strip(&base(), &with(&[WILD, (7, 0), (8, 0)])), refused(8, 5));
-    assert_eq!(on_strip(&base(), &with(&[(8, 0)])), refused(7, 8));
+    assert_eq!(on_strip(&built(), &longer), refused(3, 0));
+    assert_eq!(on_strip(&built(), &with(&[FOREIGN, WILD, (8, 0)])), refused(7, 3));
+    assert_eq!(on_strip(&built(), &with(&[WILD, (7, 0), (8, 0)])), refused(8, 5));
+    assert_eq!(on_strip(&built(), &with(&[(8, 0)])), refused(7, 8));
 }
 
 #[test]
 fn strip_sizes() {
-    let size = |width: u32, height: u32| on_strip(&base(), &with(&[(0, 1 << 28 | width << 14 | height)]));
+    let size = |width: u32, height: u32| on_strip(&built(), &with(&[(0, 1 << 28 | width << 14 | height)]));
     for (width, height) in [(0, 1), (1, 0), (8193, 1), (1, 8193), (16383, 16383), (8192, 2049)] {
         assert_eq!(size(width, height), refused(1, 0));
     }
@@ -149,7 +149,7 @@ fn strip_sizes() {
 
 #[test]
 fn strip_keys() {
-    let key = |word: u32| on_strip(&base(), &with(&[(1, word)]));
+    let key = |word: u32| on_strip(&built(), &with(&[(1, word)]));
     assert_eq!(key(0x20000000), refused(2, 0));
     assert_eq!(key(0x2000FFFF), refused(2, 0));
     assert_eq!(key(0x200003E8), Ok(()));
@@ -160,7 +160,7 @@ fn strip_keys() {
 
 #[test]
 fn channel_words() {
-    let word = |word: u32| on_strip(&base(), &with(&[(3, word)]));
+    let word = |word: u32| on_strip(&built(), &with(&[(3, word)]));
     for good in [0x50000000, 0x50004880, 0x500048FF, 0x5000B880, 0x5000B8FF] {
         assert_eq!(word(good), Ok(()));
     }
@@ -177,30 +177,30 @@ fn channel_words() {
 #[test]
 fn end_words() {
     for foreign in [0x60000002, 0x70000001, 0x70000003, 0x78000002, 0xF0000002] {
-        assert_eq!(on_strip(&base(), &with(&[(8, foreign)])), refused(7, 8));
+        assert_eq!(on_strip(&built(), &with(&[(8, foreign)])), refused(7, 8));
     }
 }
 
 #[test]
 fn rows_before_words() {
-    assert_eq!(base().row(&EXAMPLE, 1), refused(20, 0));
-    assert_eq!(base().row(&EXAMPLE, u64::MAX), refused(20, 0));
-    assert_eq!(base().row(&with(&[FOREIGN]), 1), refused(20, 0));
-    assert_eq!(base().row(&EXAMPLE[..8], 1), refused(3, 0));
-    assert_eq!(base().row(&with(&[FOREIGN]), 0), refused(7, 3));
-    assert_eq!(base().row(&with(&[(8, 0)]), 0), refused(7, 8));
+    assert_eq!(built().row(&EXAMPLE, 1), refused(20, 0));
+    assert_eq!(built().row(&EXAMPLE, u64::MAX), refused(20, 0));
+    assert_eq!(built().row(&with(&[FOREIGN]), 1), refused(20, 0));
+    assert_eq!(built().row(&EXAMPLE[..8], 1), refused(3, 0));
+    assert_eq!(built().row(&with(&[FOREIGN]), 0), refused(7, 3));
+    assert_eq!(built().row(&with(&[(8, 0)]), 0), refused(7, 8));
 }
 
 #[test]
 fn room_before_words() {
     for strip in [with(&[FOREIGN]), with(&[WILD]), EXAMPLE.to_vec()] {
-        assert_eq!(base().unpack(&strip, 5), refused(4, 0));
-        assert_eq!(base().levels(&strip, 5), refused(4, 0));
-        assert_eq!(base().levels(&strip[..8], 5), refused(3, 0));
+        assert_eq!(built().unpack(&strip, 5), refused(4, 0));
+        assert_eq!(built().levels(&strip, 5), refused(4, 0));
+        assert_eq!(built().levels(&strip[..8], 5), refused(3, 0));
     }
-    assert_eq!(base().unpack(&with(&[WILD]), 6), refused(8, 5));
-    assert_eq!(base().levels(&with(&[WILD]), 6), refused(8, 5));
-    assert!(base().unpack(&EXAMPLE, 6).is_ok() && base().levels(&EXAMPLE, 6).is_ok());
+    assert_eq!(built().unpack(&with(&[WILD]), 6), refused(8, 5));
+    assert_eq!(built().levels(&with(&[WILD]), 6), refused(8, 5));
+    assert!(built().unpack(&EXAMPLE, 6).is_ok() && built().levels(&EXAMPLE, 6).is_ok());
 }
 
 /// Strips that are nearly right, and random sources: every call answers, with every rule.
@@ -213,7 +213,7 @@ fn nothing_panics() {
         screen_curve: true,
     });
     let mut generator = Generator::new(5);
-    for step in [base(), all] {
+    for step in [built(), taking_dark_pages(), all] {
         for _ in 0..2000 {
             let mut strip = EXAMPLE.to_vec();
             strip.truncate(generator.below(12) as usize);
