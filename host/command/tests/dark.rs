@@ -71,14 +71,17 @@ fn every_word_comes_first() {
     }
 }
 
+/// The files of two bands, and their folder, which stays as long as it is kept.
+fn two_bands(test: &str, top: Vec<u32>, bottom: Vec<u32>) -> (Folder, String, String) {
+    let folder = Folder::new(test);
+    let (top, bottom) = (folder.file("top", &bytes32(&top)), folder.file("bottom", &bytes32(&bottom)));
+    (folder, top, bottom)
+}
+
 /// Two lit pixels of 32, all in the second band.
 #[test]
 fn a_dark_band_of_a_bright_page() {
-    let folder = Folder::new("dark_band");
-    let (top, bottom) = (
-        folder.file("top", &bytes32(&row(16, 0))),
-        folder.file("bottom", &bytes32(&row(16, 2))),
-    );
+    let (_folder, top, bottom) = two_bands("dark_band", row(16, 0), row(16, 2));
     refused(&["tally", "--bands", &top], &[], DARK);
     assert_eq!(text(&["tally", "--bands", &top, &bottom], &[]), tally_of_greys(2));
     let mut levels = [0; 32];
@@ -90,11 +93,7 @@ fn a_dark_band_of_a_bright_page() {
 /// One lit pixel of 32, in the first band.
 #[test]
 fn a_bright_band_of_a_dark_page() {
-    let folder = Folder::new("bright_band");
-    let (top, bottom) = (
-        folder.file("top", &bytes32(&row(16, 1))),
-        folder.file("bottom", &bytes32(&row(16, 0))),
-    );
+    let (folder, top, bottom) = two_bands("bright_band", row(16, 1), row(16, 0));
     assert_eq!(text(&["tally", "--bands", &top], &[]), tally_of_greys(1));
     refused(&["tally", "--bands", &top, &bottom], &[], DARK);
     refused(&["map", "--bands", &top, &bottom, &folder.path("page.ppm")], &[], DARK);
@@ -105,11 +104,7 @@ fn a_bright_band_of_a_dark_page() {
 
 #[test]
 fn every_band_comes_first() {
-    let folder = Folder::new("dark_unlike");
-    let (top, bottom) = (
-        folder.file("top", &bytes32(&row(16, 0))),
-        folder.file("bottom", &bytes32(&row(17, 0))),
-    );
+    let (_folder, top, bottom) = two_bands("dark_unlike", row(16, 0), row(17, 0));
     let line = format!("refused 21 0 unlike bands: {bottom}");
     refused(&["tally", "--bands", &top, &bottom], &[], &line);
     refused(&["map", "--bands", &top, &bottom, "-"], &[], &line);
