@@ -23,6 +23,7 @@
  *     6  too bright      channel above 2^56
  *     7  foreign word    kind, spare bits or end count wrong
  *     8  wild channel    neither (0,0) nor exponent 72..184 with mantissa 128..255
+ *     9  dark page       16 times the number of lit pixels below the number of pixels; only tallying and mapping refuse it
  *    20  no such row     row number not below the height
  *    21  unlike bands    width or key unlike the first band's, or the bands together above the limits of 1
  *
@@ -129,8 +130,8 @@ dofnihet_outcome dofnihet_check(const uint32_t *strip, size_t strip_len);
 dofnihet_outcome dofnihet_unpack(const uint32_t *strip, size_t strip_len, uint16_t *output, size_t output_len);
 
 /* Maps a strip to levels, red, green and blue of each pixel, left to right, top row first.
- * They are left in the output's front, 3 * width * height bytes; all are 0 where no pixel is lit.
- * Refuses as dofnihet_check does, with 4 between length and words. */
+ * They are left in the output's front, 3 * width * height bytes.
+ * Refuses as dofnihet_check does, with 4 between length and words, and with 9 last. */
 dofnihet_outcome dofnihet_map(const uint32_t *strip, size_t strip_len, uint8_t *output, size_t output_len);
 
 /* Reads back width, height and key of a strip.
@@ -151,8 +152,9 @@ dofnihet_step dofnihet_step_of(const uint32_t *strip, size_t strip_len, uint64_t
 
 /* Tallies a strip: number of lit pixels, sum of their steps, average in steps (256 to a doubling) and as stored number, and the smallest
  * and the largest, by worth, of the lit pixels' stored luminances. A stored number is worth (mantissa + 1/2) * 2^(exponent - 136).
- * `present` is 1 where a pixel is lit, else 0 with 0 in average and in every exponent and mantissa; a refusal has 0 in all ten.
- * Refuses as dofnihet_check does. */
+ * `present` tells whether average, darkest and brightest are there. In an accepted tally it is 1, since a page that is not dark has a lit
+ * pixel; a refusal has 0 in all ten.
+ * Refuses as dofnihet_check does, with 9 last. */
 dofnihet_tally dofnihet_tally_of(const uint32_t *strip, size_t strip_len);
 
 /* Reads back width and key of bands, and the height of all together.
@@ -163,12 +165,12 @@ dofnihet_header dofnihet_header_of_bands(const uint32_t *bands, size_t bands_len
 
 /* Tallies bands: the tally of the tall page.
  * The fields are as dofnihet_tally_of has them.
- * Refuses as dofnihet_header_of_bands does. */
+ * Refuses as dofnihet_header_of_bands does, with 9 last: it is about the pixels of all bands. */
 dofnihet_tally dofnihet_tally_of_bands(const uint32_t *bands, size_t bands_len);
 
 /* Maps bands to levels, under the average of all: the levels of the tall page.
- * They are left in the output's front, three bytes for each pixel of all bands; all are 0 where no pixel is lit.
- * Refuses as dofnihet_header_of_bands does, with 4 last. */
+ * They are left in the output's front, three bytes for each pixel of all bands.
+ * Refuses as dofnihet_tally_of_bands does, with 4 last. */
 dofnihet_outcome dofnihet_map_bands(const uint32_t *bands, size_t bands_len, uint8_t *output, size_t output_len);
 
 /* Writes what stands before the levels in a Netpbm P6 picture: "P6", width, height, "255".

@@ -1,5 +1,5 @@
-/* Every function of include/dofnihet.h called once accepted and, where it can refuse, once refused, with every field and element printed.
- * `tests/c_interface` compares the output with interface.stdout. */
+/* Every function of include/dofnihet.h called once accepted and, where it can refuse, once refused, with every field and element printed;
+ * then pages with just enough lit pixels, and dark ones. `tests/c_interface` compares the output with interface.stdout. */
 #include "dofnihet.h"
 
 #include <inttypes.h>
@@ -196,6 +196,64 @@ static void outputs(void)
     printf("front: %" PRIu64 " bytes, then %02X\n%.*s", count, (unsigned)front[count], (int)count, (const char *)front);
 }
 
+/* Makes a page of one row, so many pixels of grey 1.0 and behind them black ones; answers the number of its words. */
+static size_t make_row(uint64_t width, uint64_t lit, uint32_t *strip)
+{
+    uint16_t halves[3 * 17] = {0};
+    for (uint64_t i = 0; i < 3 * lit; i++)
+        halves[i] = 0x3C00;
+    dofnihet_page page = {.width = width, .height = 1, .key = 180};
+    dofnihet_convert_half(halves, 3 * width, page, strip, DOFNIHET_STRIP_LENGTH(width));
+    return DOFNIHET_STRIP_LENGTH(width);
+}
+
+/* Prints an output by its runs of equal elements: how many, and which. */
+static void print_runs(const char *call, dofnihet_outcome told, const uint8_t *levels, size_t count)
+{
+    print_outcome(call, told);
+    for (size_t i = 0, next; i < count; i = next) {
+        for (next = i; next < count && levels[next] == levels[i]; next++)
+            ;
+        printf(" %zu*%u", next - i, (unsigned)levels[i]);
+    }
+    printf("\n");
+}
+
+static void dark_pages(void)
+{
+    uint32_t strip[DOFNIHET_STRIP_LENGTH(17)];
+    uint8_t levels[3 * 17];
+    size_t words = make_row(16, 1, strip);
+    print_tally("tally 1 lit of 16", dofnihet_tally_of(strip, words));
+    memset(levels, OLD, sizeof levels);
+    print_runs("map 1 lit of 16", dofnihet_map(strip, words, levels, 51), levels, 51);
+    words = make_row(17, 1, strip);
+    print_outcome("check 1 lit of 17", dofnihet_check(strip, words));
+    print_tally("\ntally 1 lit of 17", dofnihet_tally_of(strip, words));
+    memset(levels, OLD, sizeof levels);
+    print_runs("map 1 lit of 17", dofnihet_map(strip, words, levels, 51), levels, 51);
+    print_runs("map 1 lit of 17 into 50", dofnihet_map(strip, words, levels, 50), levels, 51);
+}
+
+/* Two bands of 16 pixels. */
+static void dark_bands(void)
+{
+    uint32_t rows[2 * DOFNIHET_STRIP_LENGTH(16)];
+    uint8_t levels[3 * 32];
+    size_t words = make_row(16, 0, rows);
+    words += make_row(16, 2, rows + words);
+    print_tally("tally 0 and 2 lit of 16", dofnihet_tally_of_bands(rows, words));
+    memset(levels, OLD, sizeof levels);
+    print_runs("map 0 and 2 lit of 16", dofnihet_map_bands(rows, words, levels, 96), levels, 96);
+    words = make_row(16, 1, rows);
+    words += make_row(16, 0, rows + words);
+    print_header("header 1 and 0 lit of 16", dofnihet_header_of_bands(rows, words));
+    print_tally("tally 1 and 0 lit of 16", dofnihet_tally_of_bands(rows, words));
+    memset(levels, OLD, sizeof levels);
+    print_runs("map 1 and 0 lit of 16", dofnihet_map_bands(rows, words, levels, 96), levels, 96);
+    print_runs("map 1 and 0 lit of 16 into 95", dofnihet_map_bands(rows, words, levels, 95), levels, 96);
+}
+
 int main(void)
 {
     conversions();
@@ -203,5 +261,7 @@ int main(void)
     outputs();
     readings_of_bands();
     outputs_of_bands();
+    dark_pages();
+    dark_bands();
     return 0;
 }

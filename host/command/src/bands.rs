@@ -40,15 +40,16 @@ impl Bands {
         Ok(Bands { words, files })
     }
 
-    /// What a call of the library answers for the row. A refusal gets its file and, where it has a place, the word in that file.
+    /// What a call of the library answers for the row. A refusal gets its file and, where it has a place, the word in that file; where the
+    /// page is refused and every band accepted, it gets none.
     pub fn ask<T>(&self, call: impl FnOnce(&[u32]) -> Result<T, Refusal>) -> Result<T, Failure> {
         call(&self.words).map_err(|refusal| {
             let at = if refusal.has_place() {
-                self.word_at(refusal.place as usize)
+                Some(self.word_at(refusal.place as usize))
             } else {
-                name(&self.first_refused().path)
+                self.first_refused().map(|file| name(&file.path))
             };
-            Failure::RefusedIn(refusal, at)
+            at.map_or(Failure::Refused(refusal), |at| Failure::RefusedIn(refusal, at))
         })
     }
 
@@ -59,12 +60,11 @@ impl Bands {
         format!("{} word {}", name(&self.files[at].path), place - start)
     }
 
-    /// The first file with which the row so far is refused. Once refused, a row of whole bands stays so however many follow; where a band
-    /// is split over files, that is not so, and another file may be told.
-    fn first_refused(&self) -> &BandFile {
+    /// The first file with which the row so far is refused, if there is one. Once refused, a row of whole bands stays so however many
+    /// follow; where a band is split over files, that is not so, and another file may be told.
+    fn first_refused(&self) -> Option<&BandFile> {
         let accepted = |file: &BandFile| dofnihet::header_of_bands(&self.words[..file.end]).is_ok();
-        let last = self.files.len() - 1;
-        &self.files[self.files[..last].partition_point(accepted)]
+        self.files.get(self.files.partition_point(accepted))
     }
 }
 

@@ -8,7 +8,7 @@ use std::io;
 #[derive(Debug)]
 pub enum Failure {
     Refused(Refusal),
-    /// A refusal of bands, and where: the file, or the word in it.
+    /// A refusal of one of several files, and where: the file, or the word in it.
     RefusedIn(Refusal, String),
     Wrong(String),
 }
@@ -30,10 +30,18 @@ impl Failure {
 impl fmt::Display for Failure {
     fn fmt(&self, f: &mut fmt::Formatter) -> fmt::Result {
         match self {
-            Failure::Refused(refusal) => write!(f, "{refusal} {}", refusal.word()),
+            Failure::Refused(refusal) => write!(f, "{refusal} {}{}", refusal.word(), advice(refusal)),
             Failure::RefusedIn(refusal, file) => write!(f, "{refusal} {}: {file}", refusal.word()),
             Failure::Wrong(text) => write!(f, "dofnihet: {text}"),
         }
+    }
+}
+
+/// What people are told on a line of its own behind a refusal.
+fn advice(refusal: &Refusal) -> &'static str {
+    match refusal.number {
+        9 => "\nfewer than one pixel in sixteen is lit; look for the lens cap",
+        _ => "",
     }
 }
 

@@ -33,6 +33,12 @@ that file, from 0 on:
 next file for its own, so that word 0 of that file is foreign. Where the last file ends before the strip does, it is refused with 3,
 unless that word 0 stands in the place of its key word.
 
+A page is dark where fewer than one pixel in sixteen is lit, as a photograph of the lens cap is. tally and map refuse it once all
+else is accepted; the other commands take it. Of bands the pixels of all count, and no file is told:
+
+    refused 9 0 dark page
+    fewer than one pixel in sixteen is lit; look for the lens cap
+
 Exit status: 0 accepted; 1 refused, with a line such as 'refused 3 0 wrong length' (number, place, word) on standard error;
 2 wrong usage, a file that cannot be read or written, or no PFM file.
 ";
@@ -80,8 +86,8 @@ Prints what the lit pixels of a page are like, or of the page that all bands are
     brightest    the largest one
     range        the doublings from darkest to brightest, told by their steps
 
-A stored number is worth (M + 1/2) * 2^(E - 136), which is printed with four significant digits. Where no pixel is lit, the lines
-are 'lit 0', 'sum 0', 'average absent', 'darkest absent' and 'brightest absent'.
+A stored number is worth (M + 1/2) * 2^(E - 136), which is printed with four significant digits. A dark page is refused; see
+dofnihet --help.
 
 To choose a key: a grey as bright as the average is scaled to K/1000 and comes out at about level 255 * K / (1000 + K), which is 39
 for 180. The worths tell how far the page goes below and above the average; a doubling is twice the worth. Far below the average
@@ -95,7 +101,7 @@ dofnihet map STRIP PICTURE
 dofnihet map --bands STRIP.. PICTURE
 
 Maps a strip to levels from 0 to 255 and writes them as a Netpbm P6 picture. Bands become one picture, under the average of all: that
-of the page that they are cut from.
+of the page that they are cut from. A dark page is refused; see dofnihet --help.
 ";
 
 pub const ROW: &str = "\

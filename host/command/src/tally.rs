@@ -1,21 +1,18 @@
 //! What `tally` prints.
 
 use crate::worth::worth;
-use dofnihet::{Extremes, Header, Source, Stored, Tally};
+use dofnihet::{Average, Extremes, Header, Source, Stored, Tally};
 
+/// The lines of what a tally has. That of an accepted page has all.
 pub fn text(tally: &Tally) -> String {
-    let average = match tally.average {
-        Some(average) => {
-            let (exponent, mantissa) = (average.exponent, average.mantissa);
-            format!("average {}\nstored {}\n", average.steps, number(Stored { exponent, mantissa }))
-        }
-        None => "average absent\n".to_string(),
-    };
-    let extremes = match tally.extremes {
-        Some(extremes) => extremes_text(extremes),
-        None => "darkest absent\nbrightest absent\n".to_string(),
-    };
+    let average = tally.average.map(average_text).unwrap_or_default();
+    let extremes = tally.extremes.map(extremes_text).unwrap_or_default();
     format!("lit {}\nsum {}\n{average}{extremes}", tally.lit, tally.sum)
+}
+
+fn average_text(average: Average) -> String {
+    let (exponent, mantissa) = (average.exponent, average.mantissa);
+    format!("average {}\nstored {}\n", average.steps, number(Stored { exponent, mantissa }))
 }
 
 fn extremes_text(Extremes { darkest, brightest }: Extremes) -> String {
@@ -108,16 +105,5 @@ mod tests {
         let wanted = "lit 2\nsum -5737\naverage -2869\nstored 117 221 worth 0.0004225\ndarkest 106 192 worth 1.793e-7\n\
                       brightest 129 128 worth 1.004\nrange 22.4 doublings\n";
         assert_eq!(text(&tally), wanted);
-    }
-
-    #[test]
-    fn lines_without_light() {
-        let tally = Tally {
-            lit: 0,
-            sum: 0,
-            average: None,
-            extremes: None,
-        };
-        assert_eq!(text(&tally), "lit 0\nsum 0\naverage absent\ndarkest absent\nbrightest absent\n");
     }
 }

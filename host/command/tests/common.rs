@@ -122,6 +122,9 @@ brightest 128 255 worth 0.9980
 range 1.0 doublings
 ";
 
+/// What is printed for a dark page.
+pub const DARK: &str = "refused 9 0 dark page\nfewer than one pixel in sixteen is lit; look for the lens cap";
+
 /// A folder of one test.
 pub struct Folder(PathBuf);
 

@@ -116,13 +116,6 @@ fn red_alone() {
     assert!(page(180, &red).0.ends_with(&one_luminance("127 137 worth 0.2686")));
 }
 
-#[test]
-fn a_page_without_light() {
-    let (tally, levels) = page(180, &greys(&[0, 0x8000]));
-    assert_eq!(tally, "lit 0\nsum 0\naverage absent\ndarkest absent\nbrightest absent\n");
-    assert_eq!(levels, [0; 6]);
-}
-
 /// Greys (129,128) and (127,255) among black pixels: the brighter one has the smaller mantissa. Their steps are 1793 - 1792 and
 /// 2047 - 2304, which are 258 apart; the average is 256 · -1 + 128, and X[128] is 181.
 #[test]

@@ -4,6 +4,7 @@ mod bands;
 mod commands;
 mod common;
 mod cut;
+mod dark;
 mod examples;
 mod memory;
 mod pfm;

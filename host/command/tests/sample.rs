@@ -10,12 +10,13 @@ use std::process::Command;
 const STRIP: &[u8] = include_bytes!("../../../samples/relief.strip");
 const README: &str = include_str!("../../../README.md");
 
-/// A folder as the reader has it, with the sample page and a page of another width.
+/// A folder as the reader has it, with the sample page, a page of another width and a black one.
 fn readers_folder(name: &str) -> Folder {
     let folder = Folder::new(name);
     fs::create_dir(folder.path("samples")).unwrap();
     folder.file("samples/relief.strip", STRIP);
     folder.file("photo.strip", &bytes32(&common::STRIP));
+    folder.file("cap.strip", &bytes32(&common::strip("half", 1, 1, 180, &[0; 6])));
     folder
 }
 
@@ -86,4 +87,9 @@ fn readme_shows_the_bands() {
         "dofnihet map --bands relief-001.strip photo.strip relief.ppm",
     ];
     readme_shows(&folder, &commands);
+}
+
+#[test]
+fn readme_shows_a_dark_page() {
+    readme_shows(&readers_folder("readme_dark"), &["dofnihet map cap.strip cap.ppm"]);
 }

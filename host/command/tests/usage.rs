@@ -1,6 +1,6 @@
 //! Wrong usage, and help.
 
-use crate::common::{text, wrong, TALLY};
+use crate::common::{text, wrong, DARK, TALLY};
 
 #[test]
 fn wrong_usage() {
@@ -77,6 +77,12 @@ fn help() {
         assert_eq!(text(&[command, "-", "--key", "--help"], &[]), help);
     }
     assert!(text(&["convert", "--help"], &[]).contains("no float is multiplied by it"));
-    let example: String = TALLY.lines().map(|line| format!("    {line}\n")).collect();
-    assert!(text(&["tally", "--help"], &[]).contains(&format!("\n\n{example}\n")));
+    assert!(text(&["tally", "--help"], &[]).contains(&example(TALLY)));
+    assert!(all.contains(&example(DARK)));
+}
+
+/// What the program prints, as a help text shows it.
+fn example(printed: &str) -> String {
+    let lines: String = printed.lines().map(|line| format!("    {line}\n")).collect();
+    format!("\n\n{lines}\n")
 }

@@ -24,6 +24,7 @@ impl Refusal {
             6 => "too bright",
             7 => "foreign word",
             8 => "wild channel",
+            9 => "dark page",
             20 => "no such row",
             21 => "unlike bands",
             _ => "unlisted",
@@ -84,7 +85,8 @@ pub struct Extremes {
     pub brightest: Stored,
 }
 
-/// The number of lit pixels, the sum of their steps, and what is absent where no pixel is lit: average and extremes.
+/// The number of lit pixels, the sum of their steps, and what is absent where no pixel is lit: average and extremes. The tally of an
+/// accepted page always has both, since a page without a lit pixel is dark.
 #[derive(Clone, Copy, Debug, PartialEq, Eq)]
 pub struct Tally {
     pub lit: u64,
@@ -139,7 +141,7 @@ pub fn unpack(strip: &[u32], output: &mut [u16]) -> Result<(), Refusal> {
     done(raw::unpack(strip, output))
 }
 
-/// Leaves the levels of a strip, three bytes a pixel, in the output's front.
+/// Leaves the levels of a strip, three bytes a pixel, in the output's front. A dark page is refused, as [`tally`] refuses it.
 pub fn map(strip: &[u32], output: &mut [u8]) -> Result<(), Refusal> {
     done(raw::map(strip, output))
 }
@@ -172,7 +174,7 @@ pub fn step(strip: &[u32], n: u64) -> Result<Option<[u16; 3]>, Refusal> {
     accepted(told.number, told.place, (told.over == 0).then_some(channels))
 }
 
-/// The tally of a strip.
+/// The tally of a strip. A dark page, where fewer than one pixel in sixteen is lit, is refused.
 pub fn tally(strip: &[u32]) -> Result<Tally, Refusal> {
     tally_told(raw::tally(strip))
 }
@@ -208,7 +210,7 @@ pub fn header_of_bands(bands: &[u32]) -> Result<Header, Refusal> {
     header_told(raw::header_of_bands(bands))
 }
 
-/// The tally of the tall page that bands are ([`header_of_bands`]).
+/// The tally of the tall page that bands are ([`header_of_bands`]). It is refused as dark by the pixels of all bands.
 pub fn tally_of_bands(bands: &[u32]) -> Result<Tally, Refusal> {
     tally_told(raw::tally_of_bands(bands))
 }
