@@ -7,7 +7,7 @@ use native.Mathlib.Omega.{arith}
 use lib.Dec.{eqb, le→leb, lit<}
 use lib.IntN.{ℤ, pos, subℕ, natAbs, _+ℤ_}
 use lib.Signed.{_≤ℤ_, leZ-yes}
-use borrow.Author.Tests.{eqb-true, eqb-false}
+use borrow.Author.Tests.{eqb-true, eqb-false, ne-eqb}
 use Rattle.number.proofs.Laws.{same-difference, sub-pos, sub-plus, sub-least, sub-most, lowered}
 use Rattle.number.specs.declared.ratio.Stored.{Stored}
 use Rattle.average.specs.Averages.{floorDiv, floorMod, storedAverage, averageOf, IsAverage, IsStoredAverage}
@@ -86,7 +86,7 @@ module _ (A : ℤ) (v : IsAverage A) where
           rw (exponent-is 129 (omega arith) (omega arith))
           (record { least = omega (arith, r .least); most = omega (arith, r .most); mantissa = root-mantissa (floorMod A 256) })
 
--- ---- an average that is reported is that of at least one luminance, and none is reported where there is no luminance
+-- ---- an average is reported of one luminance or more, and of no others
 
 pub record Reported (n : ℕ) (z A : ℤ) (average : Stored) : Type 0 where
   pub lit : 0 < n
@@ -105,13 +105,9 @@ module _ (n : ℕ) (z : ℤ) where
           let same : floorDiv z n ≡ A = cc in
           record { lit = pos-of-ne-zero (eqb-false n 0 q); steps = same; stored = cc }
 
-  pub absent : averageOf n z ≡ Absent → n ≡ 0
+  pub present : 0 < n → averageOf n z ≡ Present (floorDiv z n) (storedAverage (floorDiv z n))
   unfolding averageOf
-  absent = by (eqb n 0) refl
-    where
-      by : (b : Bool) → eqb n 0 ≡ b → cond b Absent (Present (floorDiv z n) (storedAverage (floorDiv z n))) ≡ Absent → n ≡ 0
-      by true q e = eqb-true n 0 q
-      by false q e = let clash : suc zero ≡ zero = cc in omega arith
+  present some = rw (ne-eqb n 0 (λ e. omega arith))
 
   pub reported-range : {A : ℤ} {average : Stored} → IsSum n z → averageOf n z ≡ Present A average → IsStoredAverage average
   reported-range s e =

@@ -8,6 +8,6 @@ pub use Rattle.average.proofs.Sums.{tallies-join, total-append, sum-is,
 pub use Rattle.average.proofs.Widening.{extremes-hold}
 -- what X promises; the ranges of an average in steps and of a stored average; when one is reported
 pub use Rattle.average.proofs.Rules.{root-below, root-above}
-pub use Rattle.average.proofs.Averages.{sum-has-average, stored-average-range, Reported, reported, absent, reported-range}
+pub use Rattle.average.proofs.Averages.{sum-has-average, stored-average-range, Reported, reported, present, reported-range}
 -- the first half of demand 3
 pub use Rattle.average.proofs.Mean.{mean-bound}

@@ -1,8 +1,9 @@
 // Step 3: the average of a tally's steps, and the stored average.
 ghost use mathlib.Core.Path.{_≡_};
+ghost use Prim.Native.Nat.{_<_};
 ghost use lib.IntN.{pos, natAbs, _+ℤ_};
 ghost use lib.Signed.{_≤ℤ_};
-ghost use Rattle.average.specs.Averages.{storedAverage, averageOf, IsAverage, averageTold};
+ghost use Rattle.average.specs.Averages.{floorDiv, storedAverage, averageOf, IsAverage, averageTold};
 ghost use Rattle.average.specs.loops.Sums.{HasAverage};
 use crate::floor::floor_div;
 use crate::floor::floor_mod;
@@ -40,6 +41,14 @@ fn stored_average(steps: i64) -> Stored
         exponent: exponent(q, 129),
         mantissa: root(f as u8),
     }
+}
+
+// The stored average of one luminance or more, whose steps add up to `sum`.
+pub fn lit_average(count: u64, sum: i64) -> Stored
+    requires { ⌜ (0 < count) × HasAverage count sum ⌝ }
+    ensures { λ r. ⌜ r ≡ storedAverage (floorDiv sum count) ⌝ }
+{
+    stored_average(floor_div(sum, count))
 }
 
 // The average of `count` luminances whose steps add up to `sum`.

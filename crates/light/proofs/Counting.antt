@@ -1,23 +1,23 @@
 -- Lit pixels counted: at each turn those of the pixels so far. Assumes nothing.
-use Prim.Native.Nat.{ℕ, zero, suc, _+_, _*_, _/_, _≤_, _<_, min}
+use Prim.Native.Nat.{ℕ, _+_, _/_, _≤_, _<_}
 use mathlib.Core.Path.{_≡_, refl, sym, ap, ap₂, _∙_}
 use mathlib.Core.Bool.{not, _||_, cond}
 use mathlib.Core.List.{List, [], _∷_, _++_}
 use native.Mathlib.Omega.{arith}
 use borrow.Author.Tests.{ne-eqb}
 use lib.Dec.{eqb}
-use lib.ListN.{length, getD, take, drop, take-append-drop, length-append}
+use lib.ListN.{length, take, drop, take-append-drop, length-append}
 use lib.Seq.{take-all, length-take-le}
 use Rattle.number.specs.declared.channel.Channel.{Channel}
 use Rattle.number.specs.declared.channel.Channel.the-variants.{Black, Lit}
 use Rattle.number.specs.declared.channel.Pixel.{Pixel}
 use Rattle.number.specs.Channels.{IsCode}
-use Rattle.number.proofs.Laws.{Coded, IsChannel, codeChannel}
+use Rattle.number.proofs.Laws.{Coded}
 use Rattle.word.specs.Fields.{low16}
 use Rattle.word.specs.Pixels.{pixelOf, wordChannel, wordPixels}
 use Rattle.word.specs.loops.Walks.{pixelAt}
 use Rattle.word.proofs.Pixels.{length-word-pixels, take-pixel}
-use Rattle.luminance.specs.Pixels.{isBlack, anyLit}
+use Rattle.luminance.specs.Pixels.{isBlack}
 use Rattle.body.specs.Luminances.{luminancesOf, litCount}
 use Rattle.body.proofs.Laws.{lit-count, luminances-append, luminances-few}
 

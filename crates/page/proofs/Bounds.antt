@@ -1,44 +1,38 @@
 -- Demand 3 of a page, and the promises of the two calls. Assumes nothing.
-use Prim.Native.Nat.{ℕ, _<_}
-use mathlib.Core.Path.{_≡_, refl, sym, subst, _∙_}
+use Prim.Native.Nat.{ℕ}
+use mathlib.Core.Path.{_≡_, refl, sym, subst}
 use mathlib.Core.List.{List, [], _∷_, _++_, flatMap}
 use mathlib.Core.Logic.{inl, inr}
-use native.Mathlib.Omega.{arith}
-use lib.IntN.{ℤ}
 use lib.ListN.{length}
 use Rattle.number.specs.declared.channel.Pixel.{Pixel}
-use Rattle.number.specs.declared.ratio.Stored.{Stored}
 use Rattle.number.proofs.Laws.{Every}
 use Rattle.refusal.specs.declared.Refusal.{Refusal}
 use Rattle.refusal.specs.declared.Verdict.{Verdict}
 use Rattle.refusal.specs.declared.Verdict.the-variants.{Accepted, Refused}
 use Rattle.refusal.specs.Verdicts.{reportOf}
 use Rattle.refusal.proofs.Laws.{also-with}
-use Rattle.strip.specs.Checks.{headerFields}
+use Rattle.word.specs.Words.{pixels}
+use Rattle.strip.specs.Checks.{headerFields, checkStrip}
 use Rattle.refusal.specs.Output.{onto, after}
 use Rattle.strip.specs.Reading.{stripPixels}
-use Rattle.strip.proofs.Limits.{Whole}
-use Rattle.average.specs.declared.average.Average.{Average}
-use Rattle.average.specs.declared.average.Average.the-variants.{Absent, Present}
+use Rattle.average.specs.declared.average.Average.the-variants.{Present}
 use Rattle.average.specs.declared.tally.Tally.{Tally}
-use Rattle.average.specs.Averages.{storedAverage}
+use Rattle.average.specs.Averages.{storedAverage, averageOf}
+use Rattle.light.specs.Light.{checkLight}
 use Rattle.tone.specs.declared.tone.Tone.{Tone}
 use Rattle.tone.specs.Levels.{IsTone}
 use Rattle.luminance.specs.Pixels.{IsPixel}
-use Rattle.average.specs.Tallies.{tallyOf}
 use Rattle.tone.proofs.Laws.{level-bound}
 use Rattle.page.specs.declared.tally.TallyOrRefusal.{TallyOrRefusal}
-use Rattle.page.specs.declared.tally.TallyOrRefusal.the-variants.{Holds, Refuses}
-use Rattle.page.specs.Tallying.{stripLuminances, stripAverage, tallyUnder, tallyTold, tallyStrip}
-use Rattle.body.specs.Luminances.{litCount}
+use Rattle.page.specs.declared.tally.TallyOrRefusal.the-variants.{Refuses}
+use Rattle.page.specs.Tallying.{stripLuminances, stripTally, averageSteps, tallyUnder, tallyTold, tallyStrip}
 use Rattle.body.specs.Levels.{levelsUnder}
 use Rattle.body.proofs.Laws.{storedLuminance, lit-luminance, lit-count, every-luminance}
 use Rattle.page.specs.Checks.{checkTally}
 use Rattle.page.specs.Mapping.{stripLevels}
-use Rattle.page.specs.Claims.{MeanHalf, EachThree, LitBound, LevelHalf, BoundsReported, DemandThree}
-use Rattle.page.specs.Claims.{WhereLit, TallyPromise, MapPromise}
-use Rattle.average.proofs.Laws.{reported, absent, extremes-hold, mean-bound}
-use Rattle.page.proofs.Checks.{tally-whole, map-tally}
+use Rattle.page.specs.Claims.{MeanHalf, EachThree, LitBound, LevelHalf, DemandThree, TallyPromise, MapPromise}
+use Rattle.average.proofs.Laws.{present, extremes-hold, mean-bound}
+use Rattle.page.proofs.Checks.{tally-refused, tally-checked, tally-whole, tally-lit, map-tally}
 use Rattle.page.proofs.Strips.{strip-valid, strip-tone}
 
 -- ---- the levels of a list of pixels, with anything behind them
@@ -59,60 +53,51 @@ module _ (t : Tone) (tone : IsTone t) where
     levels-bound ps rest (valid .1),
   )
 
--- ---- a strip
+-- ---- an accepted strip: it has a lit pixel
 
-module _ (s : List ℕ) (ok : Whole s) where
-  -- where an average is absent, no pixel is lit
-  where-lit : (Half : ℤ → Type 0) → ((A : ℤ) → stripAverage s ≡ Present A (storedAverage A) → Half A)
-      → WhereLit (stripPixels s) (stripAverage s) Half
-  where-lit Half half = by (stripAverage s) refl
-    where
-      by : (a : Average) → stripAverage s ≡ a → WhereLit (stripPixels s) a Half
-      by Absent e = let n = absent _ _ e in let count = lit-count (stripPixels s) in omega arith
-      by (Present A average) e =
-          let r = reported _ _ e in
-          let some = r .lit in
-          let count = lit-count (stripPixels s) in
-          (omega arith, half A (e ∙ rw (r .stored)))
+module _ (s : List ℕ) (ok : checkTally s ≡ Accepted) where
+  -- so that it has an average
+  pub strip-present : averageOf (stripTally s .count) (stripTally s .sum) ≡ Present (averageSteps (stripTally s)) (storedAverage (averageSteps (stripTally s)))
+  strip-present = present _ _ (rw (lit-count (stripPixels s)) (tally-lit s ok))
 
-  mean-half : {A : ℤ} {average : Stored} → stripAverage s ≡ Present A average → MeanHalf (stripPixels s) A
-  mean-half {A} {average} e =
+  mean-half : MeanHalf (stripPixels s) (averageSteps (stripTally s))
+  mean-half =
       record {
         count = lit-count (stripPixels s);
-        mean = mean-bound (stripLuminances s) (every-luminance (stripPixels s) (strip-valid s ok)) A average e;
+        mean = mean-bound (stripLuminances s) (every-luminance (stripPixels s) (strip-valid s (tally-whole s ok))) _ _ strip-present;
       }
 
-  level-half : {A : ℤ} (output : List ℕ) → stripAverage s ≡ Present A (storedAverage A)
-      → LevelHalf (headerFields s) (stripPixels s) A (onto (stripLevels s) output)
-  level-half output e =
-      record {
-        each = rw e (levels-bound _ (strip-tone s ok e) (stripPixels s) _ (strip-valid s ok));
-      }
+  level-half : (output : List ℕ) → LevelHalf (headerFields s) (stripPixels s) (averageSteps (stripTally s)) (onto (stripLevels s) output)
+  level-half output =
+      let whole = tally-whole s ok in
+      record { each = levels-bound _ (strip-tone s whole (tally-lit s ok)) (stripPixels s) _ (strip-valid s whole) }
 
 -- ---- what the calls promise
 
--- the answer of a tally
-module _ (s : List ℕ) where
-  pub answered : {t : Tally} {a : Average} → checkTally s ≡ Accepted → t ≡ tallyOf (stripLuminances s) → a ≡ stripAverage s
-      → Holds t a ≡ tallyStrip s
-  unfolding tallyStrip
-  answered e f g = rw (e, f, g)
+-- a tally of so many pixels, in their light
+pub tallied : (s : List ℕ) → checkStrip s ≡ Accepted → (t : Tally) (n : ℕ) → t ≡ stripTally s → n ≡ pixels (headerFields s)
+    → tallyUnder (checkLight (t .count) n) t ≡ tallyStrip s
+unfolding tallyStrip
+tallied s e t n f g = rw (tally-checked s e, f, g, lit-count (stripPixels s))
 
-  pub refused : {r : Refusal} {i : ℕ} → checkTally s ≡ Refused r i → Refuses r i ≡ tallyStrip s
-  unfolding tallyStrip
-  refused e = rw e
+pub refused : (s : List ℕ) {r : Refusal} {i : ℕ} → checkStrip s ≡ Refused r i → Refuses r i ≡ tallyStrip s
+unfolding tallyStrip
+refused s e = rw (tally-refused s e)
 
 pub tally-bound : (s : List ℕ) → TallyPromise s (tallyStrip s)
 unfolding tallyStrip
 tally-bound s = by (checkTally s) refl
   where
-    by : (v : Verdict) → checkTally s ≡ v → TallyPromise s (tallyUnder v (tallyOf (stripLuminances s)))
+    by : (v : Verdict) → checkTally s ≡ v → TallyPromise s (tallyUnder v (stripTally s))
     by Accepted e =
-        let count = lit-count (stripPixels s) in (
-          count,
-          record { count = count; extremes = extremes-hold (stripLuminances s) },
-          where-lit s (tally-whole s e) (MeanHalf (stripPixels s)) (λ A q. mean-half s (tally-whole s e) q),
-        )
+        let count = lit-count (stripPixels s) in
+        record {
+          lit = tally-lit s e;
+          count = count;
+          present = strip-present s e;
+          mean = mean-half s e;
+          extremes = record { count = count; extremes = extremes-hold (stripLuminances s) };
+        }
     by (Refused r i) e = tt
 
 -- an answer by a rule that promises so much of a strip
@@ -121,7 +106,7 @@ pub bounded : (s : List ℕ) {rule answer : TallyOrRefusal} → TallyPromise s r
 bounded s p e = also-with tallyTold e (subst (TallyPromise s) (sym e) p)
 
 pub map-bound : (s output : List ℕ) → checkTally s ≡ Accepted → MapPromise s Accepted (onto (stripLevels s) output)
-map-bound s output e = where-lit s (tally-whole s e) _ (λ A q. level-half s (tally-whole s e) output q)
+map-bound s output e = (tally-lit s e, level-half s e output)
 
 -- what a call leaves in the output where a rule decides: these levels, of which so much is promised of a strip
 module _ (s levels old : List ℕ) (rule : Verdict) where
@@ -136,18 +121,12 @@ module _ (s levels old : List ℕ) (rule : Verdict) where
 
 -- ---- both together
 
-module _ (s bytes : List ℕ) (ok : checkTally s ≡ Accepted) (lit : 0 < litCount (stripPixels s)) where
-  joined : (a : Average) → stripAverage s ≡ a → TallyPromise s (Holds (tallyOf (stripLuminances s)) a)
-      → WhereLit (stripPixels s) a (λ A. LevelHalf (headerFields s) (stripPixels s) A bytes) → BoundsReported s bytes
-  joined Absent e mean levels = absurd (omega (arith, lit, mean .2))
-  joined (Present A average) e mean levels =
-      record {
-        A = A;
-        reported = sym (answered s ok refl (rw (reported _ _ e .stored) (sym e)));
-        bounds = record { mean = mean .2 .1; levels = levels .1 };
-      }
-
 pub demand-three : DemandThree
-demand-three s output e lit =
+unfolding tallyStrip
+demand-three s output e =
     let ok = map-tally s (length output) e in
-    joined s _ ok lit (stripAverage s) refl (rw (← answered s ok refl refl) at (tally-bound s)) (map-bound s output ok)
+    record {
+      A = averageSteps (stripTally s);
+      reported = rw (ok, strip-present s ok);
+      bounds = record { mean = mean-half s ok; levels = level-half s ok output };
+    }

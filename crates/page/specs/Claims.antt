@@ -14,18 +14,18 @@ use Rattle.strip.specs.Checks.{headerFields}
 use Rattle.refusal.specs.Output.{onto}
 use Rattle.strip.specs.Reading.{stripPixels}
 use Rattle.average.specs.declared.average.Average.{Average}
-use Rattle.average.specs.declared.average.Average.the-variants.{Absent, Present}
+use Rattle.average.specs.declared.average.Average.the-variants.{Present}
 use Rattle.average.specs.declared.tally.Extremes.{Extremes}
+use Rattle.average.specs.declared.tally.Tally.{Tally}
 use Rattle.average.specs.Averages.{storedAverage}
 use Rattle.tone.specs.Claims.{LevelBound}
 use Rattle.tone.specs.declared.tone.Tone.{Tone}
 use Rattle.luminance.specs.Pixels.{anyLit}
-use Rattle.average.specs.Tallies.{tallyOf}
 use Rattle.page.specs.declared.tally.TallyOrRefusal.{TallyOrRefusal}
 use Rattle.page.specs.declared.tally.TallyOrRefusal.the-variants.{Holds, Refuses}
 use Rattle.body.specs.Luminances.{luminancesOf, litCount}
 use Rattle.page.specs.Checks.{checkMap}
-use Rattle.page.specs.Tallying.{stripLuminances, stripAverage, tallyStrip}
+use Rattle.page.specs.Tallying.{averageSteps, stripTally, tallyStrip}
 use Rattle.average.specs.Claims.{HasExtremes, MeanBound}
 use Rattle.page.specs.Mapping.{toneOf, stripLevels}
 
@@ -60,38 +60,41 @@ pub record ToneBounds (s : List ℕ) (A : ℤ) (bytes : List ℕ) : Type 0 where
 
 -- ---- what the calls promise
 
--- what holds of the A of an average; absent is promised exactly where no pixel is lit
-abbrev pub WhereLit : List Pixel → Average → (Half : ℤ → Type 0) → Type 0
-WhereLit ps Absent Half = litCount ps ≡ 0
-WhereLit ps (Present A average) Half = (0 < litCount ps) × Half A
-
 -- "both occur on the page": the extremes are those of the luminances of its lit pixels, of which there are N
 pub record ExtremesOn (ps : List Pixel) (e : Extremes) : Type 0 where
   pub count : length (luminancesOf ps) ≡ litCount ps
   pub extremes : HasExtremes e (luminancesOf ps)
 
--- "the first half holds wherever the tally accepts, the second wherever mapping does"
+-- a page that is not dark has a lit pixel: "The all-black answer of document 01 no longer occurs there."
+abbrev pub HasLight : List Pixel → Type 0
+HasLight ps = 0 < litCount ps
+
+-- N counts the lit pixels; the average is there, and "the first half holds wherever the tally accepts"
+pub record TallyHolds (ps : List Pixel) (t : Tally) (average : Average) : Type 0 where
+  pub lit : HasLight ps
+  pub count : t .count ≡ litCount ps
+  pub present : average ≡ Present (averageSteps t) (storedAverage (averageSteps t))
+  pub mean : MeanHalf ps (averageSteps t)
+  pub extremes : ExtremesOn ps (t .extremes)
+
 abbrev pub TallyPromise : (s : List ℕ) → TallyOrRefusal → Type 0
-TallyPromise s (Holds t average) =
-    (t .count ≡ litCount (stripPixels s)) × ExtremesOn (stripPixels s) (t .extremes)
-    × WhereLit (stripPixels s) average (MeanHalf (stripPixels s))
+TallyPromise s (Holds t average) = TallyHolds (stripPixels s) t average
 TallyPromise s (Refuses r i) = Unit
 
+-- "the second wherever mapping does"
 abbrev pub MapPromise : (s : List ℕ) → Verdict → (bytes : List ℕ) → Type 0
 MapPromise s Accepted bytes =
-    WhereLit (stripPixels s) (stripAverage s) (λ A. LevelHalf (headerFields s) (stripPixels s) A bytes)
+    HasLight (stripPixels s) × LevelHalf (headerFields s) (stripPixels s) (averageSteps (stripTally s)) bytes
 MapPromise s (Refused r i) bytes = Unit
 
--- ---- both together, of every page that both calls accept and that has a lit pixel; what mapping accepts, the tally accepts
+-- ---- both together, of every page that both calls accept; what mapping accepts, the tally accepts
 
 -- the A that the tally reports, and demand 3 of it
 pub record BoundsReported (s bytes : List ℕ) : Type 0 where
   pub A : ℤ
-  pub reported : tallyStrip s ≡ Holds (tallyOf (stripLuminances s)) (Present A (storedAverage A))
+  pub reported : tallyStrip s ≡ Holds (stripTally s) (Present A (storedAverage A))
   pub bounds : ToneBounds s A bytes
 
 -- Proved as `demand-three` in proofs/Bounds.antt.
 abbrev pub DemandThree : Type 0
-DemandThree =
-    (s output : List ℕ) → checkMap s (length output) ≡ Accepted → 0 < litCount (stripPixels s)
-    → BoundsReported s (onto (stripLevels s) output)
+DemandThree = (s output : List ℕ) → checkMap s (length output) ≡ Accepted → BoundsReported s (onto (stripLevels s) output)

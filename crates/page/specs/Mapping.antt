@@ -1,28 +1,25 @@
 -- The levels of a page. Assumes nothing.
 -- "mapping gives three level bytes a pixel"
-use Prim.Native.Nat.{ℕ, _*_}
+use Prim.Native.Nat.{ℕ}
 use mathlib.Core.List.{List}
-use lib.ListN.{length, replicate}
-use Rattle.number.specs.declared.channel.Pixel.{Pixel}
 use Rattle.number.specs.declared.ratio.Stored.{Stored}
 use Rattle.word.specs.declared.header.Header.{Header}
 use Rattle.strip.specs.Checks.{headerFields}
 use Rattle.strip.specs.Reading.{stripPixels}
-use Rattle.average.specs.declared.average.Average.{Average}
-use Rattle.average.specs.declared.average.Average.the-variants.{Absent, Present}
+use Rattle.average.specs.declared.tally.Tally.{Tally}
+use Rattle.average.specs.Averages.{storedAverage}
 use Rattle.tone.specs.declared.tone.Tone.{Tone}
 use Rattle.body.specs.Levels.{levelsUnder}
-use Rattle.page.specs.Tallying.{stripAverage}
+use Rattle.page.specs.Tallying.{averageSteps, stripTally}
 
 -- what a page is mapped under: its key, and a stored average
 abbrev pub toneOf : Header → (average : Stored) → Tone
 toneOf h average = record { key = h .key; average = average }
 
--- "If N = 0 the page is accepted, the average is reported as absent, all levels are 0."
-abbrev pub pageLevels : Average → Header → List Pixel → List ℕ
-pageLevels Absent h ps = replicate (3 * length ps) 0
-pageLevels (Present A average) h ps = levelsUnder (toneOf h average) ps
+-- that of a tally
+abbrev pub toneUnder : Header → Tally → Tone
+toneUnder h t = toneOf h (storedAverage (averageSteps t))
 
 -- the level bytes of an accepted strip
 abbrev pub stripLevels : List ℕ → List ℕ
-stripLevels s = pageLevels (stripAverage s) (headerFields s) (stripPixels s)
+stripLevels s = levelsUnder (toneUnder (headerFields s) (stripTally s)) (stripPixels s)

@@ -3,15 +3,14 @@
 -- stored luminance among lit pixels"
 use Prim.Native.Nat.{ℕ}
 use mathlib.Core.List.{List, _∷_, _++_}
-use lib.IntN.{pos}
+use lib.IntN.{ℤ, pos}
 use Rattle.number.specs.declared.ratio.Stored.{Stored}
 use Rattle.refusal.specs.declared.Verdict.{Verdict}
 use Rattle.refusal.specs.declared.Verdict.the-variants.{Accepted, Refused}
 use Rattle.refusal.specs.Told.{Told, holding, refusing}
 use Rattle.strip.specs.Reading.{stripPixels}
-use Rattle.average.specs.declared.average.Average.{Average}
 use Rattle.average.specs.declared.tally.Tally.{Tally}
-use Rattle.average.specs.Averages.{averageOf, averageValues}
+use Rattle.average.specs.Averages.{floorDiv, averageOf, averageValues}
 use Rattle.average.specs.Tallies.{tallyOf, extremesValues}
 use Rattle.body.specs.Luminances.{luminancesOf}
 use Rattle.page.specs.Checks.{checkTally}
@@ -21,14 +20,15 @@ use Rattle.page.specs.declared.tally.TallyOrRefusal.the-variants.{Holds,
 abbrev pub stripLuminances : List ℕ → List Stored
 stripLuminances s = luminancesOf (stripPixels s)
 
-abbrev pub averageOfTally : Tally → Average
-averageOfTally t = averageOf (t .count) (t .sum)
+abbrev pub stripTally : List ℕ → Tally
+stripTally s = tallyOf (stripLuminances s)
 
-abbrev pub stripAverage : List ℕ → Average
-stripAverage s = averageOfTally (tallyOf (stripLuminances s))
+-- "A", the steps of the average, of a tally with a lit pixel
+abbrev pub averageSteps : Tally → ℤ
+averageSteps t = floorDiv (t .sum) (t .count)
 
 abbrev pub tallyUnder : Verdict → Tally → TallyOrRefusal
-tallyUnder Accepted t = Holds t (averageOfTally t)
+tallyUnder Accepted t = Holds t (averageOf (t .count) (t .sum))
 tallyUnder (Refused r i) t = Refuses r i
 
 -- in numbers: N, the sum of steps, and the average's and the extremes' numbers behind them; or the refusal
@@ -38,4 +38,4 @@ tallyTold (Refuses r i) = refusing r i
 
 -- what a tally answers: of a refused strip its refusal
 unfoldable pub tallyStrip : List ℕ → TallyOrRefusal
-tallyStrip s = tallyUnder (checkTally s) (tallyOf (stripLuminances s))
+tallyStrip s = tallyUnder (checkTally s) (stripTally s)

@@ -1,16 +1,20 @@
 // A page mapped to levels.
 ghost use mathlib.Core.Path.{_≡_};
+ghost use Prim.Native.Nat.{_<_};
 ghost use lib.ListN.{length};
 ghost use Rattle.refusal.specs.Output.{after};
-ghost use Rattle.page.specs.Checks.{checkMap};
-ghost use Rattle.page.specs.Mapping.{toneOf, stripLevels};
-ghost use Rattle.page.specs.Claims.{MapPromise};
 ghost use Rattle.refusal.specs.Verdicts.{reportOf};
-use average::average::Average;
-use average::average::average_of;
+ghost use Rattle.average.specs.loops.Sums.{IsTally};
+ghost use Rattle.page.specs.Checks.{checkMap};
+ghost use Rattle.page.specs.Mapping.{toneUnder, stripLevels};
+ghost use Rattle.page.specs.Claims.{MapPromise};
+use average::average::lit_average;
+use average::tally::Tally;
 use body::levels::map_levels;
 use body::tally::tally_keeping;
-use number::ratio::Stored;
+use light::check_light;
+use light::enough_for;
+use light::lit_up_to;
 use refusal::Verdict;
 use strip::check::check_output;
 use strip::read::body;
@@ -18,14 +22,31 @@ use strip::read::header_fields;
 use tone::tone::Tone;
 use word::header::Header;
 
-// What a page is mapped under: its key, and an average.
-pub fn tone_of(header: Header, average: Stored) -> Tone
-    ensures { λ r. ⌜ r ≡ toneOf header average ⌝ }
+// What a page is mapped under: its key, and the average of a tally with a lit pixel.
+pub fn tone_of(header: Header, tally: Tally) -> Tone
+    requires { ⌜ (0 < tally .count) × IsTally tally ⌝ }
+    ensures { λ r. ⌜ r ≡ toneUnder header tally ⌝ }
 {
+    let key = header.key;
+    let count = tally.count;
+    let sum = tally.sum;
     Tone {
-        key: header.key,
-        average: average,
+        key: key,
+        average: lit_average(count, sum),
     }
+}
+
+// A page that is to be mapped into an output of so many bytes. Lit pixels are counted until they are enough.
+fn check_map(strip: &[u32], room: usize) -> Verdict
+    ensures { λ r. ⌜ r ≡ checkMap (now (strip .entry)) room ⌝ }
+{
+    let verdict = check_output(strip, room);
+    let Verdict::Accepted = verdict else {
+        return verdict;
+    };
+    let words = body(strip);
+    let pixels = (words.len() / 3) as u64;
+    check_light(lit_up_to(words, enough_for(pixels)), pixels)
 }
 
 // Three level bytes a pixel, into the front of the output; a refusal leaves the output as it was.
@@ -35,15 +56,11 @@ pub fn map(strip: &[u32], output: &mut [u8]) -> Verdict
     ensures content { λ r. ⌜ now (output .exit) ≡ after r (stripLevels (now (strip .entry))) (now (output .entry)) ⌝ }
     ensures bound { λ r. ⌜ MapPromise (now (strip .entry)) r (now (output .exit)) ⌝ }
 {
-    let verdict = check_output(strip, output.len());
+    let verdict = check_map(strip, output.len());
     let Verdict::Accepted = verdict else {
         return verdict;
     };
     let tally = tally_keeping(body(strip), output);
-    // Where no pixel is lit, the indices are zeros, and so are the levels.
-    let Average::Present(_, average) = average_of(tally.count, tally.sum) else {
-        return Verdict::Accepted;
-    };
-    map_levels(body(strip), tone_of(header_fields(strip), average), output);
+    map_levels(body(strip), tone_of(header_fields(strip), tally), output);
     Verdict::Accepted
 }
