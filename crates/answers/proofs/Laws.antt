@@ -1,20 +1,17 @@
 -- For the crates above: an answer in numbers keeps what the call beneath promises. Assumes nothing.
 use Prim.Native.Nat.{ℕ, _<_}
 use mathlib.Core.Path.{_≡_, refl, sym, ap, subst, _∙_}
-use mathlib.Core.Logic.{inl, inr}
 use mathlib.Core.List.{List}
 use native.Mathlib.Omega.{arith}
 use Rattle.number.specs.declared.channel.Pixel.{Pixel}
-use Rattle.number.proofs.Laws.{occurs-some}
 use Rattle.refusal.proofs.Laws.{numbered}
 use Rattle.refusal.specs.declared.Outcome.{Outcome}
 use Rattle.refusal.specs.declared.Verdict.{Verdict}
 use Rattle.refusal.specs.declared.Verdict.the-variants.{Accepted, Refused}
 use Rattle.refusal.specs.Verdicts.{reportOf}
 use Rattle.refusal.specs.Output.{after}
-use Rattle.average.specs.declared.average.Average.the-variants.{Absent, Present}
 use Rattle.average.specs.declared.tally.Extremes.{Extremes}
-use Rattle.average.specs.declared.tally.Extremes.the-variants.{Both}
+use Rattle.average.specs.declared.tally.Extremes.the-variants.{Absent, Both}
 use Rattle.average.specs.Tallies.{darkestOf, brightestOf}
 use Rattle.average.specs.Claims.{AreExtremes}
 use Rattle.strip.specs.Reading.{stripPixels}
@@ -32,47 +29,30 @@ pub reported : {verdict v : Verdict} {front old new : List ℕ} {told : Outcome}
     → new ≡ after v front old → Reports verdict front old told new
 reported {front} {old} t v c = record { outcome = t ∙ ap reportOf v; content = c ∙ ap (λ w. after w front old) v }
 
--- a tally's promise
--- the extremes of a page, by whether a pixel is lit
-module _ (ps : List Pixel) where
-  told : (e : Extremes) → ExtremesOn ps e → 0 < litCount ps → AreExtremes (darkestOf e) (brightestOf e) (luminancesOf ps)
-  told Extremes.Absent h some = let none = h .extremes in absurd (omega (arith, none, h .count, some))
-  told (Both d b) h some = h .extremes
-
-  free : (e : Extremes) → ExtremesOn ps e → litCount ps ≡ 0 → e ≡ Extremes.Absent
-  free Extremes.Absent h none = refl
-  free (Both d b) h none = absurd (omega (arith, occurs-some (luminancesOf ps) d (h .extremes .darkest-occurs), h .count, none))
+-- a tally's promise: the extremes of a page with a lit pixel
+told : (ps : List Pixel) (e : Extremes) → ExtremesOn ps e → 0 < litCount ps → AreExtremes (darkestOf e) (brightestOf e) (luminancesOf ps)
+told ps Absent h some = let none = h .extremes in absurd (omega (arith, none, h .count, some))
+told ps (Both d b) h some = h .extremes
 
 bounded : (s : List ℕ) (a : TallyOrRefusal) → TallyPromise s a → TallyBound s (tallyAnswer a)
-bounded s (Holds t Absent) p =
-    record {
-      count = λ _. p .0;
-      flag = inl refl;
-      absent = λ _ _. p .2;
-      mean = λ e. absurd (omega (arith, e));
-      extremes = λ e. absurd (omega (arith, e));
+bounded s (Holds t average) p =
+    rw (p .present)
+    (record {
+      count = λ _. p .count;
+      lit = λ _. p .lit;
+      present = λ _. refl;
+      mean = λ _. p .mean;
+      extremes = λ _. told (stripPixels s) (t .extremes) (p .extremes) (p .lit);
       refused = λ e. absurd (omega (arith, e));
-      none = λ _. rw (free (stripPixels s) (t .extremes) (p .1) (p .2)) (refl, refl, refl, refl);
-    }
-bounded s (Holds t (Present A stored)) p =
-    record {
-      count = λ _. p .0;
-      flag = inr refl;
-      absent = λ _ e. absurd (omega (arith, e));
-      mean = λ _. p .2 .1;
-      extremes = λ _. told (stripPixels s) (t .extremes) (p .1) (p .2 .0);
-      refused = λ e. absurd (omega (arith, e));
-      none = λ e. absurd (omega (arith, e));
-    }
+    })
 bounded s (Refuses r i) p =
     record {
       count = λ e. absurd (numbered r i e);
-      flag = inl refl;
-      absent = λ e _. absurd (numbered r i e);
-      mean = λ e. absurd (omega (arith, e));
-      extremes = λ e. absurd (omega (arith, e));
-      refused = λ _. (refl, refl);
-      none = λ _. (refl, refl, refl, refl);
+      lit = λ e. absurd (numbered r i e);
+      present = λ e. absurd (numbered r i e);
+      mean = λ e. absurd (numbered r i e);
+      extremes = λ e. absurd (numbered r i e);
+      refused = λ _. (refl, refl, refl, refl, refl, refl);
     }
 
 pub answered : (s : List ℕ) (a : TallyOrRefusal) (r : TallyAnswer) {rule : TallyOrRefusal} → r ≡ tallyAnswer a

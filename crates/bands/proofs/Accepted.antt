@@ -1,12 +1,12 @@
 -- What an accepted row of bands keeps to. Assumes nothing.
-use Prim.Native.Nat.{ℕ, _+_, _*_, _<_}
+use Prim.Native.Nat.{ℕ, _+_, _<_}
 use mathlib.Core.Path.{_≡_, refl, sym, ap, _∙_}
 use mathlib.Core.Bool.{true}
-use mathlib.Core.List.{List, [], _∷_, _++_, flatMap}
+use mathlib.Core.List.{List, [], _∷_, flatMap}
 use native.Mathlib.Nat.{zero-add}
 use native.Mathlib.Omega.{arith}
 use borrow.Author.Tests.{eqb-true, leb-true}
-use lib.ListN.{length, replicate, length-append, replicate-append-replicate}
+use lib.ListN.{length}
 use Rattle.number.proofs.Laws.{Every}
 use Rattle.refusal.specs.declared.Verdict.the-variants.{Accepted}
 use Rattle.refusal.proofs.Laws.{require-passed, and-passed}
@@ -16,17 +16,18 @@ use Rattle.word.proofs.Limits.{both-true}
 use Rattle.strip.specs.Checks.{headerFields}
 use Rattle.strip.specs.Reading.{stripPixels}
 use Rattle.strip.proofs.Limits.{Whole, whole-strip}
-use Rattle.average.specs.declared.average.Average.{Average}
-use Rattle.average.specs.declared.average.Average.the-variants.{Absent, Present}
+use Rattle.average.specs.declared.tally.Tally.{Tally}
 use Rattle.average.specs.Tallies.{tallyOf, join}
 use Rattle.body.specs.Luminances.{luminancesOf}
+use Rattle.body.specs.Levels.{levelsUnder}
 use Rattle.body.proofs.Laws.{tally-join, levels-append}
 use Rattle.page.specs.Tallying.{stripLuminances}
-use Rattle.page.specs.Mapping.{toneOf, pageLevels}
+use Rattle.page.specs.Mapping.{toneUnder}
 use Rattle.series.specs.Series.{Standing, seriesOf}
 use Rattle.series.proofs.Laws.{standing-accepted, series-next}
 use Rattle.bands.specs.Checks.{bandHeader, joins, checkBand, checkEach, checkBands, joinedHeight}
-use Rattle.bands.specs.Joining.{joinTallies, bandLevels}
+use Rattle.bands.specs.Joining.{joinTallies}
+use Rattle.bands.specs.Answers.{bandLevels}
 use Rattle.bands.specs.loops.Walks.{joinedPixels}
 
 -- ---- one band
@@ -103,19 +104,11 @@ tallies-of [] = refl
 tallies-of (b ∷ bs) =
     ap (join (tallyOf (stripLuminances (b .strip)))) (tallies-of bs) ∙ sym (tally-join (stripPixels (b .strip)) (joinedPixels bs))
 
--- zeros for some pixels and for others
-zeros : (m n : ℕ) → let none = replicate {A = ℕ} in none (3 * m) 0 ++ none (3 * n) 0 ≡ none (3 * (m + n)) 0
-zeros m n = let e : 3 * (m + n) ≡ 3 * m + 3 * n = omega arith in rw e (replicate-append-replicate {A = ℕ} (3 * m) (3 * n) 0)
-
 -- bands of one key are mapped as their pixels together are
-pub levels-of : (average : Average) (first : Header) (bs : List Standing) → Every (IsBand first) bs
-    → flatMap (bandLevels average) bs ≡ pageLevels average first (joinedPixels bs)
+pub levels-of : (t : Tally) (first : Header) (bs : List Standing) → Every (IsBand first) bs
+    → flatMap (bandLevels t) bs ≡ levelsUnder (toneUnder first t) (joinedPixels bs)
 unfolding flatMap
-levels-of Absent first [] valid = refl
-levels-of (Present A a) first [] valid = refl
-levels-of Absent first (b ∷ bs) valid =
-    rw (levels-of Absent first bs (valid .1), length-append (stripPixels (b .strip)) (joinedPixels bs))
-    (zeros (length (stripPixels (b .strip))) (length (joinedPixels bs)))
-levels-of (Present A a) first (b ∷ bs) valid =
-    rw (valid .0 .key, levels-of (Present A a) first bs (valid .1))
-    (sym (levels-append (toneOf first a) (stripPixels (b .strip)) (joinedPixels bs)))
+levels-of t first [] valid = refl
+levels-of t first (b ∷ bs) valid =
+    rw (valid .0 .key, levels-of t first bs (valid .1))
+    (sym (levels-append (toneUnder first t) (stripPixels (b .strip)) (joinedPixels bs)))

@@ -1,54 +1,55 @@
--- The joined average of an accepted row, which is the tall strip's, and the answer of its tally. Assumes nothing.
-use Prim.Native.Nat.{ℕ}
-use mathlib.Core.Path.{_≡_, sym, ap, subst, _∙_}
+-- The joined tally of an accepted row, which is the tall strip's, and its answer. Assumes nothing.
+use Prim.Native.Nat.{ℕ, _<_}
+use mathlib.Core.Path.{_≡_, sym, subst₂, _∙_}
 use mathlib.Core.List.{List}
-use lib.IntN.{ℤ}
-use mir.Syntax.{w64}
-use mir.Val.{toZ, ofZ}
-use Rattle.number.specs.declared.ratio.Stored.{Stored}
 use Rattle.refusal.specs.declared.Refusal.{Refusal}
 use Rattle.refusal.specs.declared.Verdict.the-variants.{Accepted, Refused}
+use Rattle.refusal.specs.Verdicts.{andThen}
+use Rattle.word.specs.Words.{pixels}
 use Rattle.strip.specs.Checks.{headerFields}
-use Rattle.average.specs.declared.average.Average.{Average}
-use Rattle.average.specs.declared.average.Average.the-variants.{Present}
+use Rattle.strip.specs.Reading.{stripPixels}
 use Rattle.average.specs.declared.tally.Tally.{Tally}
-use Rattle.average.specs.Averages.{averageOf}
-use Rattle.average.specs.loops.Sums.{HasAverage}
+use Rattle.average.specs.loops.Sums.{IsTally}
 use Rattle.tone.specs.Levels.{IsTone}
-use Rattle.page.specs.declared.tally.TallyOrRefusal.the-variants.{Holds, Refuses}
-use Rattle.page.specs.Mapping.{toneOf}
-use Rattle.page.specs.Tallying.{averageOfTally, stripAverage}
-use Rattle.page.proofs.Laws.{has-average, average-is, strip-tone}
+use Rattle.light.specs.Light.{checkLight}
+use Rattle.body.proofs.Laws.{lit-count}
+use Rattle.page.specs.declared.tally.TallyOrRefusal.the-variants.{Refuses}
+use Rattle.page.specs.Checks.{checkTally}
+use Rattle.page.specs.Mapping.{toneUnder}
+use Rattle.page.specs.Tallying.{tallyUnder}
+use Rattle.page.proofs.Laws.{strip-tally, strip-tone, tally-lit}
 use Rattle.series.specs.Series.{seriesOf}
-use Rattle.bands.specs.Checks.{checkBands}
+use Rattle.bands.specs.Checks.{checkBands, tallHeader, checkTallyBands}
 use Rattle.bands.specs.Cutting.{tallStrip}
-use Rattle.bands.specs.Joining.{joinTallies, joinedAverage, tallyBands}
+use Rattle.bands.specs.Joining.{joinTallies}
+use Rattle.bands.specs.Answers.{tallyBands}
 use Rattle.bands.proofs.Accepted.{AreBands, bands-accepted}
-use Rattle.bands.proofs.Tall.{tall-header, tall-whole, tall-tally}
+use Rattle.bands.proofs.Tall.{tall-header, tall-whole, tall-tally, tall-checked}
 
 module _ (r : List ℕ) (e : checkBands r ≡ Accepted) where
   ok : AreBands r
   ok = bands-accepted r e
 
-  same-average : stripAverage (tallStrip r) ≡ joinedAverage (seriesOf r)
-  same-average = ap averageOfTally (sym (tall-tally r ok))
+  pub joined-tally : IsTally (joinTallies (seriesOf r))
+  joined-tally = rw (tall-tally r ok) (strip-tally (tallStrip r) (tall-whole r ok))
 
-  -- the tally as a call hands it on
-  module _ {t : Tally} (told : t ≡ joinTallies (seriesOf r)) where
-    pub joined-has-average : HasAverage (t .count) (toZ w64 (ofZ w64 (t .sum)))
-    joined-has-average = has-average (tallStrip r) (tall-whole r ok) t (told ∙ tall-tally r ok)
+  pub answered : (t : Tally) (n : ℕ) → t ≡ joinTallies (seriesOf r) → n ≡ pixels (tallHeader r) → tallyUnder (checkLight (t .count) n) t ≡ tallyBands r
+  unfolding tallyBands checkTallyBands andThen
+  answered t n f g = rw (e, f, g)
 
-    pub joined-average : {a : Average} → a ≡ averageOf (t .count) (toZ w64 (ofZ w64 (t .sum))) → a ≡ joinedAverage (seriesOf r)
-    joined-average f = average-is (tallStrip r) (tall-whole r ok) t (told ∙ tall-tally r ok) f ∙ same-average
+  -- what all bands are mapped under, where a pixel is lit
+  module _ (light : checkTallyBands r ≡ Accepted) where
+    lit : checkTally (tallStrip r) ≡ Accepted
+    lit = sym (tall-checked r e) ∙ light
 
-    pub answered : {a : Average} → a ≡ averageOf (t .count) (toZ w64 (ofZ w64 (t .sum))) → Holds t a ≡ tallyBands r
-    unfolding tallyBands
-    answered f = rw (joined-average f, told, e)
+    pub joined-lit : 0 < joinTallies (seriesOf r) .count
+    joined-lit = rw (tall-tally r ok, lit-count (stripPixels (tallStrip r))) (tally-lit (tallStrip r) lit)
 
-  -- what all bands are mapped under
-  pub joined-tone : {A : ℤ} {a : Stored} → joinedAverage (seriesOf r) ≡ Present A a → IsTone (toneOf (headerFields r) a)
-  joined-tone {a = a} f = subst (λ h. IsTone (toneOf h a)) (tall-header r ok) (strip-tone (tallStrip r) (tall-whole r ok) (same-average ∙ f))
+    pub joined-tone : IsTone (toneUnder (headerFields r) (joinTallies (seriesOf r)))
+    joined-tone =
+        let s = tallStrip r in
+        subst₂ (λ h t. IsTone (toneUnder h t)) (tall-header r ok) (sym (tall-tally r ok)) (strip-tone s (tall-whole r ok) (tally-lit s lit))
 
 pub refused : (r : List ℕ) {q : Refusal} {i : ℕ} → checkBands r ≡ Refused q i → Refuses q i ≡ tallyBands r
-unfolding tallyBands
+unfolding tallyBands checkTallyBands andThen
 refused r e = rw e

@@ -1,5 +1,5 @@
 -- The checks of a row of bands as a walk from band to band. Assumes nothing.
-use Prim.Native.Nat.{ℕ, _+_, _*_, _≤_, _<_}
+use Prim.Native.Nat.{ℕ, _+_, _*_, _≤_, _<_, min}
 use mathlib.Core.Path.{_≡_, refl, sym, ap, _∙_}
 use mathlib.Core.List.{List}
 use native.Mathlib.Nat.{zero-add}
@@ -11,6 +11,7 @@ use Rattle.refusal.specs.declared.Refusal.the-variants.{WrongLength, SmallOutpu
 use Rattle.refusal.specs.declared.Verdict.{Verdict}
 use Rattle.refusal.specs.declared.Verdict.the-variants.{Accepted, Refused}
 use Rattle.refusal.specs.Verdicts.{require, andThen}
+use Rattle.refusal.proofs.Laws.{and-passed}
 use Rattle.word.specs.declared.header.Header.{Header}
 use Rattle.word.specs.Words.{pixels}
 use Rattle.word.proofs.Limits.{size-limits}
@@ -18,7 +19,11 @@ use Rattle.strip.specs.Checks.{headerFields}
 use Rattle.series.specs.Series.{seriesOf, stripAt, standingAt}
 use Rattle.series.specs.loops.Walks.{seriesFrom}
 use Rattle.series.proofs.Laws.{series-next, series-over, strip-at-within}
-use Rattle.bands.specs.Checks.{checkBand, checkEach, checkBands, joinedHeight, tallHeader, checkMapBands}
+use Rattle.light.specs.Light.{checkLight}
+use Rattle.light.specs.loops.Counting.{enoughFor}
+use Rattle.light.proofs.Laws.{counted-enough}
+use Rattle.bands.specs.Joining.{joinTallies}
+use Rattle.bands.specs.Checks.{checkBand, checkEach, checkBands, joinedHeight, tallHeader, checkTallyBands, checkMapBands}
 use Rattle.bands.proofs.Accepted.{band-accepted, bands-accepted}
 
 -- ---- an empty row, and any other
@@ -106,14 +111,30 @@ module _ (r : List ℕ) where
   pub few-joined : checkBands r ≡ Accepted → pixels (tallHeader r) ≤ 16777216
   few-joined e = size-limits _ _ (bands-accepted r e .fits) .count
 
--- ---- the output, last
+-- ---- the light of all bands, then the output
+
+module _ (r : List ℕ) where
+  pub bands-refused : {v : Verdict} {q : Refusal} {j : ℕ} → v ≡ checkBands r → v ≡ Refused q j → v ≡ checkTallyBands r
+  unfolding checkTallyBands andThen
+  bands-refused e f = rw (sym e ∙ f) f
+
+  pub bands-passed : checkTallyBands r ≡ Accepted → checkBands r ≡ Accepted
+  unfolding checkTallyBands
+  bands-passed e = and-passed _ _ e .0
+
+  -- lit pixels are counted until they are enough
+  pub light-counted : {v : Verdict} → checkBands r ≡ Accepted
+      → v ≡ checkLight (min (enoughFor (pixels (tallHeader r))) (joinTallies (seriesOf r) .count)) (pixels (tallHeader r))
+      → v ≡ checkTallyBands r
+  unfolding checkTallyBands andThen
+  light-counted e f = f ∙ counted-enough _ _ ∙ rw e
 
 module _ (r : List ℕ) (room : ℕ) where
-  pub map-refused : {v : Verdict} {q : Refusal} {j : ℕ} → v ≡ checkBands r → v ≡ Refused q j → v ≡ checkMapBands r room
+  pub light-refused : {v : Verdict} {q : Refusal} {j : ℕ} → v ≡ checkTallyBands r → v ≡ Refused q j → v ≡ checkMapBands r room
   unfolding checkMapBands andThen
-  map-refused e f = rw (sym e ∙ f) f
+  light-refused e f = rw (sym e ∙ f) f
 
-  module _ (e : checkBands r ≡ Accepted) where
+  module _ (e : checkTallyBands r ≡ Accepted) where
     pub map-small : room < 3 * pixels (tallHeader r) → Refused SmallOutput 0 ≡ checkMapBands r room
     unfolding checkMapBands andThen require
     map-small h = rw (e, lt-leb _ _ h)

@@ -5,10 +5,10 @@ use mathlib.Core.Bool.{true}
 use mathlib.Core.List.{List, [], _∷_, _++_, flatMap}
 use native.Mathlib.Omega.{arith}
 use lib.ListN.{length, length-append}
-use Rattle.number.specs.declared.channel.Pixel.{Pixel}
 use Rattle.number.specs.Channels.{IsChannel}
 use Rattle.number.proofs.Laws.{Every, every-append}
 use Rattle.refusal.specs.declared.Verdict.the-variants.{Accepted}
+use Rattle.refusal.specs.Verdicts.{andThen}
 use Rattle.word.specs.declared.header.Header.{Header}
 use Rattle.word.specs.Words.{pixels, keyFits}
 use Rattle.word.specs.Pixels.{pixelsOf}
@@ -18,17 +18,20 @@ use Rattle.strip.specs.Checks.{headerFields, checkStrip}
 use Rattle.strip.specs.Reading.{stripChannels, stripPixels, headerUnder}
 use Rattle.strip.proofs.Limits.{Whole, whole-strip}
 use Rattle.strip.proofs.RoundTrip.{IsPage, header-written, written-accepted, channels-written, page-read, count-pixels}
-use Rattle.average.specs.declared.average.Average.{Average}
-use Rattle.average.specs.declared.average.Average.the-variants.{Absent, Present}
 use Rattle.average.specs.Tallies.{tallyOf}
 use Rattle.body.specs.Luminances.{luminancesOf}
-use Rattle.page.specs.Tallying.{stripLuminances, averageOfTally, stripAverage, tallyUnder, tallyStrip}
-use Rattle.page.specs.Mapping.{pageLevels, stripLevels}
+use Rattle.body.specs.Levels.{levelsUnder}
+use Rattle.body.proofs.Laws.{lit-count}
+use Rattle.light.specs.Light.{checkLight}
+use Rattle.page.specs.Checks.{stripLight, checkTally}
+use Rattle.page.specs.Tallying.{stripTally, tallyUnder, tallyStrip}
+use Rattle.page.specs.Mapping.{toneUnder, stripLevels}
 use Rattle.page.proofs.Laws.{tally-checked}
 use Rattle.series.specs.Series.{Standing, seriesOf}
 use Rattle.series.proofs.Laws.{series-next}
-use Rattle.bands.specs.Checks.{withRows, joinedHeight, tallHeader}
-use Rattle.bands.specs.Joining.{joinTallies, tallyBands, joinedAverage, joinedLevels}
+use Rattle.bands.specs.Joining.{joinTallies}
+use Rattle.bands.specs.Checks.{withRows, joinedHeight, tallHeader, checkBands, checkTallyBands}
+use Rattle.bands.specs.Answers.{tallyBands, joinedLevels}
 use Rattle.bands.specs.Cutting.{joinedChannels, tallStrip}
 use Rattle.bands.specs.Claims.{BandsAreTall}
 use Rattle.bands.specs.loops.Walks.{joinedPixels}
@@ -68,11 +71,6 @@ row-key r ok =
     let b = rw (series-next r 0 (ok .some)) at (ok .each) in
     rw (b .0 .key) at (b .0 .whole .head .key-fits)
 
--- a page's key alone counts for its levels
-same-key : (average : Average) (h k : Header) (ps : List Pixel) → h .key ≡ k .key → pageLevels average h ps ≡ pageLevels average k ps
-same-key Absent h k ps e = refl
-same-key (Present A a) h k ps e = rw e
-
 module _ (r : List ℕ) (ok : AreBands r) where
   pub tall-page : IsPage (tallHeader r) (joinedChannels (seriesOf r))
   tall-page =
@@ -103,15 +101,28 @@ module _ (r : List ℕ) (ok : AreBands r) where
   pub few-pixels : length (joinedPixels (seriesOf r)) ≤ 16777216
   few-pixels = rw count-all (size-limits _ _ (ok .fits) .count)
 
-  pub tall-tally : joinTallies (seriesOf r) ≡ tallyOf (stripLuminances (tallStrip r))
+  pub tall-tally : joinTallies (seriesOf r) ≡ stripTally (tallStrip r)
   tall-tally = tallies-of (seriesOf r) ∙ ap (λ ps. tallyOf (luminancesOf ps)) (sym tall-pixels)
 
+  -- and its light
+  tall-light : checkLight (joinTallies (seriesOf r) .count) (pixels (tallHeader r)) ≡ stripLight (tallStrip r)
+  tall-light =
+      ap₂ checkLight (ap (λ t. t .count) tall-tally ∙ lit-count (stripPixels (tallStrip r))) (ap pixels (sym tall-header))
+
+  -- of the header the key alone counts for the levels
   pub tall-levels : joinedLevels r ≡ stripLevels (tallStrip r)
   tall-levels =
       let s = tallStrip r in
-      levels-of (joinedAverage (seriesOf r)) (headerFields r) (seriesOf r) (ok .each)
-      ∙ ap₂ (λ t ps. pageLevels (averageOfTally t) (headerFields r) ps) tall-tally (sym tall-pixels)
-      ∙ same-key (stripAverage s) (headerFields r) (headerFields s) (stripPixels s) (ap (λ h. h .key) (sym tall-header))
+      levels-of (joinTallies (seriesOf r)) (headerFields r) (seriesOf r) (ok .each)
+      ∙ ap₂ (λ t ps. levelsUnder (toneUnder (headerFields r) t) ps) tall-tally (sym tall-pixels)
+      ∙ ap (λ h. levelsUnder (toneUnder h (stripTally s)) (stripPixels s)) (sym tall-header)
+
+-- the checks of the tally of an accepted row are those of the tall strip's
+pub tall-checked : (r : List ℕ) → checkBands r ≡ Accepted → checkTallyBands r ≡ checkTally (tallStrip r)
+unfolding checkTallyBands andThen
+tall-checked r e =
+    let ok = bands-accepted r e in
+    rw (e, tally-checked (tallStrip r) (tall-accepted r ok)) (tall-light r ok)
 
 pub bands-are-tall : BandsAreTall
 unfolding tallyBands tallyStrip
@@ -121,6 +132,6 @@ bands-are-tall r e =
     record {
       accepted = a;
       header = ap₂ headerUnder (e ∙ sym a) (sym (tall-header r ok));
-      tally = ap₂ tallyUnder (e ∙ tally-checked (tallStrip r) (sym a)) (tall-tally r ok);
+      tally = ap₂ tallyUnder (tall-checked r e) (tall-tally r ok);
       levels = tall-levels r ok;
     }

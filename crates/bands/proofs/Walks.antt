@@ -1,5 +1,5 @@
 -- Walks over accepted bands: what the bands that were passed come to. Assumes nothing.
-use Prim.Native.Nat.{ℕ, _+_, _*_, _≤_, _<_}
+use Prim.Native.Nat.{ℕ, _+_, _-_, _*_, _≤_, _<_, min}
 use mathlib.Core.Path.{_≡_, refl, sym, ap, subst, _∙_}
 use mathlib.Core.List.{List, [], _++_, append-assoc, append-nil, flatMap}
 use native.Mathlib.Omega.{arith}
@@ -18,11 +18,12 @@ use Rattle.average.specs.declared.tally.Tally.{Tally}
 use Rattle.average.specs.Tallies.{tallyOf, join}
 use Rattle.average.specs.loops.Sums.{IsTally}
 use Rattle.average.proofs.Laws.{is-tally}
-use Rattle.body.specs.Luminances.{luminancesOf}
+use Rattle.body.specs.Luminances.{luminancesOf, litCount}
 use Rattle.tone.specs.declared.tone.Tone.{Tone}
 use Rattle.body.specs.Levels.{levelsUnder}
 use Rattle.body.specs.loops.Indices.{IsBody, indicesOf}
-use Rattle.body.proofs.Laws.{luminances-few, every-luminance, tally-join}
+use Rattle.body.proofs.Laws.{lit-count, luminances-few, every-luminance, tally-join}
+use Rattle.light.proofs.Laws.{lit-append}
 use Rattle.page.proofs.Laws.{strip-body, strip-valid}
 use Rattle.series.specs.Series.{seriesOf, stripAt, standingAt}
 use Rattle.series.specs.loops.Walks.{seriesFrom}
@@ -162,3 +163,20 @@ pub record Mapped (r : List ℕ) (tone : Tone) (old output : List ℕ) (i done :
 pub none-tallied : {t : Tally} → t ≡ tallyOf [] → t ≡ tallyOf (luminancesOf [])
 unfolding luminancesOf
 none-tallied e = e
+
+-- ---- their lit pixels counted up to `most`
+
+pub record Counted (r : List ℕ) (most lit i : ℕ) : Type 0 where
+  pub passed : List Pixel
+  pub walk : Walked r i passed
+  pub count : lit ≡ min most (litCount passed)
+
+pub counted-next : (most : ℕ) {lit more : ℕ} (ps qs : List Pixel) → lit ≡ min most (litCount ps) → more ≡ min (most - lit) (litCount qs)
+    → lit + more ≡ min most (litCount (ps ++ qs))
+counted-next most ps qs e f = omega (arith, lit-append ps qs)
+
+pub counted-all : (r : List ℕ) → AreBands r → {most lit i : ℕ} → Counted r most lit i → length r ≤ i
+    → lit ≡ min most (joinTallies (seriesOf r) .count)
+counted-all r ok {most} c h =
+    c .count ∙ ap (λ ps. min most (litCount ps)) (walked-all r ok (c .walk) h)
+    ∙ ap (min most) (sym (lit-count (joinedPixels (seriesOf r))) ∙ ap (λ t. t .count) (sym (tallies-of (seriesOf r))))

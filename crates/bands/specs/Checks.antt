@@ -15,7 +15,9 @@ use Rattle.word.specs.Words.{pixels, sizeFits}
 use Rattle.strip.specs.declared.read.HeaderOrRefusal.{HeaderOrRefusal}
 use Rattle.strip.specs.Checks.{headerFields}
 use Rattle.strip.specs.Reading.{headerUnder}
+use Rattle.light.specs.Light.{checkLight}
 use Rattle.series.specs.Series.{Standing, seriesOf, checkStanding}
+use Rattle.bands.specs.Joining.{joinTallies}
 
 -- what a band declares
 abbrev pub bandHeader : Standing → Header
@@ -65,6 +67,12 @@ tallHeader r = withRows (headerFields r) (joinedHeight (seriesOf r))
 abbrev pub readBands : List ℕ → HeaderOrRefusal
 readBands r = headerUnder (checkBands r) (tallHeader r)
 
+-- ---- the checks of tallying and mapping
+
+-- "For bands the rule looks at the joined tally only. Errors: 9 dark page, place 0, after every word has passed."
+unfoldable pub checkTallyBands : List ℕ → Verdict
+checkTallyBands r = andThen (checkBands r) (checkLight (joinTallies (seriesOf r) .count) (pixels (tallHeader r)))
+
 -- "the tray is checked last": an output of `room` bytes for "three level bytes a pixel"
 unfoldable pub checkMapBands : List ℕ → (room : ℕ) → Verdict
-checkMapBands r room = andThen (checkBands r) (require (leb (3 * pixels (tallHeader r)) room) SmallOutput 0 Accepted)
+checkMapBands r room = andThen (checkTallyBands r) (require (leb (3 * pixels (tallHeader r)) room) SmallOutput 0 Accepted)

@@ -1,5 +1,5 @@
 -- A page in bands is the one tall page, for every way of cutting. Assumes nothing.
-use Prim.Native.Nat.{ℕ, _≤_, _<_}
+use Prim.Native.Nat.{ℕ, _≤_}
 use mathlib.Core.Path.{_≡_}
 use mathlib.Core.List.{List}
 use lib.IntN.{ℤ}
@@ -8,17 +8,17 @@ use Rattle.number.proofs.Laws.{Every}
 use Rattle.refusal.specs.declared.Verdict.the-variants.{Accepted}
 use Rattle.refusal.specs.Output.{onto}
 use Rattle.strip.specs.Checks.{headerFields, checkStrip}
-use Rattle.strip.specs.Reading.{stripPixels, readHeader}
+use Rattle.strip.specs.Reading.{readHeader}
 use Rattle.average.specs.declared.average.Average.the-variants.{Present}
 use Rattle.average.specs.Averages.{storedAverage}
-use Rattle.body.specs.Luminances.{litCount}
 use Rattle.page.specs.declared.tally.TallyOrRefusal.the-variants.{Holds}
 use Rattle.page.specs.Tallying.{tallyStrip}
 use Rattle.page.specs.Mapping.{stripLevels}
 use Rattle.page.specs.Claims.{ToneBounds}
 use Rattle.series.specs.Series.{seriesOf}
+use Rattle.bands.specs.Joining.{joinTallies}
 use Rattle.bands.specs.Checks.{checkBands, bandHeights, sumHeights, readBands, checkMapBands}
-use Rattle.bands.specs.Joining.{joinTallies, tallyBands, joinedLevels}
+use Rattle.bands.specs.Answers.{tallyBands, joinedLevels}
 use Rattle.bands.specs.Cutting.{tallStrip, cutInto}
 
 -- "the joined tally equals that of the one tall strip"; "their levels one after another are those of the tall page"
@@ -52,8 +52,7 @@ pub record BandsReported (r bytes : List ℕ) : Type 0 where
   pub reported : tallyBands r ≡ Holds (joinTallies (seriesOf r)) (Present A (storedAverage A))
   pub bounds : ToneBounds (tallStrip r) A bytes
 
--- Demand 3, of every accepted row with a lit pixel. Proved as `bands-demand-three` in proofs/Bounds.antt.
+-- Demand 3, of every row that mapping accepts. Proved as `bands-demand-three` in proofs/Bounds.antt.
 abbrev pub BandsDemandThree : Type 0
 BandsDemandThree =
-    (r output : List ℕ) → checkMapBands r (length output) ≡ Accepted → 0 < litCount (stripPixels (tallStrip r))
-    → BandsReported r (onto (joinedLevels r) output)
+    (r output : List ℕ) → checkMapBands r (length output) ≡ Accepted → BandsReported r (onto (joinedLevels r) output)

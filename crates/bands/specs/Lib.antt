@@ -1,5 +1,6 @@
-pub mod Checks
 pub mod Joining
+pub mod Checks
+pub mod Answers
 pub mod Cutting
 pub mod Claims
 pub mod loops

@@ -1,17 +1,22 @@
 // The checks of a page in bands, in their order, and the header of the whole.
 ghost use mathlib.Core.Path.{_≡_};
-ghost use Prim.Native.Nat.{_*_, _≤_, _<_};
+ghost use Prim.Native.Nat.{_≤_, _<_, min};
 ghost use lib.ListN.{length};
 ghost use Rattle.refusal.specs.declared.Verdict.{Verdict};
 ghost use Rattle.word.specs.Words.{pixels};
 ghost use Rattle.strip.specs.Reading.{headerTold};
 ghost use Rattle.series.specs.Series.{seriesOf, standingAt};
-ghost use Rattle.bands.specs.Checks.{joins, checkBand, checkBands, joinedHeight, tallHeader, readBands, checkMapBands};
+ghost use Rattle.bands.specs.Joining.{joinTallies};
+ghost use Rattle.bands.specs.Checks.{joins, checkBand, checkBands, joinedHeight, tallHeader, readBands, checkTallyBands, checkMapBands};
+use light::check_light;
+use light::enough_for;
+use light::lit_up_to;
 use refusal::Refusal;
 use refusal::Verdict;
 use series::check_at;
 use series::strip_at;
 use strip::read::HeaderOrRefusal;
+use strip::read::body;
 use strip::read::header_fields;
 use word::header::Header;
 use word::header::size_fits;
@@ -83,13 +88,13 @@ fn joined_height(row: &[u32]) -> u64
     height
 }
 
-// The level bytes of all bands, three a pixel.
-fn level_bytes(row: &[u32]) -> usize
+// The pixels of all bands.
+pub(crate) fn tall_pixels(row: &[u32]) -> u64
     requires { ⌜ checkBands (now row) ≡ Verdict.Accepted ⌝ }
-    ensures { λ r. ⌜ r ≡ 3 * pixels (tallHeader (now (row .entry))) ⌝ }
+    ensures { λ r. ⌜ r ≡ pixels (tallHeader (now (row .entry))) ⌝ }
 {
     let width = header_fields(row).width;
-    (3 * (width * joined_height(row))) as usize
+    width * joined_height(row)
 }
 
 // The width, joined height and key of a row of bands, or its refusal.
@@ -111,15 +116,42 @@ pub fn header(row: &[u32]) -> HeaderOrRefusal
     }
 }
 
-// A row of bands whose levels go into an output of so many bytes.
-pub(crate) fn check_map(row: &[u32], room: usize) -> Verdict
-    ensures { λ r. ⌜ r ≡ checkMapBands (now (row .entry)) room ⌝ }
+// The number of lit pixels of all bands, or `most` where there are more: as soon as it is reached, no further pixel is read.
+fn lit_in_bands(row: &[u32], most: u64) -> u64
+    requires { ⌜ checkBands (now row) ≡ Verdict.Accepted ⌝ }
+    ensures { λ r. ⌜ r ≡ min most (joinTallies (seriesOf (now (row .entry))) .count) ⌝ }
+{
+    let mut lit: u64 = 0;
+    let mut i: usize = 0;
+    while i < row.len() {
+        let band = strip_at(row, i);
+        lit += lit_up_to(body(band), most - lit);
+        i += band.len();
+    }
+    lit
+}
+
+// A row of bands, and the light of all bands together.
+fn check_in_light(row: &[u32]) -> Verdict
+    ensures { λ r. ⌜ r ≡ checkTallyBands (now (row .entry)) ⌝ }
 {
     let verdict = check(row);
     let Verdict::Accepted = verdict else {
         return verdict;
     };
-    if room < level_bytes(row) {
+    let pixels = tall_pixels(row);
+    check_light(lit_in_bands(row, enough_for(pixels)), pixels)
+}
+
+// A row of bands whose levels go into an output of so many bytes.
+pub(crate) fn check_map(row: &[u32], room: usize) -> Verdict
+    ensures { λ r. ⌜ r ≡ checkMapBands (now (row .entry)) room ⌝ }
+{
+    let verdict = check_in_light(row);
+    let Verdict::Accepted = verdict else {
+        return verdict;
+    };
+    if room < (3 * tall_pixels(row)) as usize {
         Verdict::Refused(Refusal::SmallOutput, 0)
     } else {
         Verdict::Accepted

@@ -13,12 +13,11 @@ ghost use Rattle.page.specs.Claims.{MapPromise};
 ghost use Rattle.series.specs.Series.{seriesOf};
 ghost use Rattle.bands.specs.Checks.{checkBands, tallHeader, checkMapBands};
 ghost use Rattle.bands.specs.Cutting.{tallStrip};
-ghost use Rattle.bands.specs.Joining.{joinTallies, joinedLevels};
+ghost use Rattle.bands.specs.Answers.{joinedLevels};
+ghost use Rattle.bands.specs.Joining.{joinTallies};
 ghost use Rattle.bands.specs.loops.Walks.{joinedPixels, HoldsAll};
 use crate::check::check_map;
 use crate::tally::no_tally;
-use average::average::Average;
-use average::average::average_of;
 use average::join::join;
 use average::tally::Tally;
 use body::levels::map_levels;
@@ -78,10 +77,6 @@ pub fn map(row: &[u32], output: &mut [u8]) -> Verdict
         return verdict;
     };
     let tally = keep_tallies(row, output);
-    // Where no pixel is lit, the indices are zeros, and so are the levels.
-    let Average::Present(_, average) = average_of(tally.count, tally.sum) else {
-        return Verdict::Accepted;
-    };
-    map_each(row, tone_of(header_fields(row), average), output);
+    map_each(row, tone_of(header_fields(row), tally), output);
     Verdict::Accepted
 }

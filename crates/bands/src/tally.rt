@@ -8,13 +8,15 @@ ghost use Rattle.page.specs.Tallying.{tallyTold};
 ghost use Rattle.series.specs.Series.{seriesOf};
 ghost use Rattle.bands.specs.Checks.{checkBands};
 ghost use Rattle.bands.specs.Cutting.{tallStrip};
-ghost use Rattle.bands.specs.Joining.{joinTallies, tallyBands};
+ghost use Rattle.bands.specs.Answers.{tallyBands};
+ghost use Rattle.bands.specs.Joining.{joinTallies};
 use crate::check::check;
-use average::average::average_of;
+use crate::check::tall_pixels;
 use average::join::join;
 use average::tally::Extremes;
 use average::tally::Tally;
 use page::tally::TallyOrRefusal;
+use page::tally::tally_in_light;
 use refusal::Verdict;
 use series::strip_at;
 use strip::read::body;
@@ -55,7 +57,7 @@ pub fn tally(row: &[u32]) -> TallyOrRefusal
     match verdict {
         Verdict::Accepted => {
             let tally = join_tallies(row);
-            TallyOrRefusal::Holds(tally, average_of(tally.count, tally.sum))
+            tally_in_light(tally, tall_pixels(row))
         },
         Verdict::Refused(refusal, i) => TallyOrRefusal::Refuses(refusal, i),
     }

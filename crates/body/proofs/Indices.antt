@@ -4,7 +4,7 @@ use mathlib.Core.Path.{_≡_, refl, sym, ap, subst, _∙_}
 use mathlib.Core.List.{List, [], _∷_, _++_, flatMap}
 use native.Mathlib.Omega.{arith}
 use borrow.Author.Tests.{ne-eqb}
-use lib.ListN.{length, getD, replicate, take, drop, length-take, length-drop}
+use lib.ListN.{length, getD, take, drop, length-take, length-drop}
 use lib.Seq.{drop-append-seam, getD-take, getD-drop}
 use Rattle.number.specs.declared.channel.Pixel.{Pixel}
 use Rattle.refusal.specs.Output.{onto}
@@ -16,8 +16,7 @@ use Rattle.luminance.specs.declared.pixel.Luminance.the-variants.{Unlit, Lit}
 use Rattle.luminance.specs.loops.Codes.{indexOf, indexCount, storedAt}
 use Rattle.luminance.specs.Pixels.{IsPixel, luminanceOf, IsLuminance}
 use Rattle.luminance.proofs.Laws.{luminance-range, index-stored, index-range}
-use Rattle.body.specs.Luminances.{ifLit, luminancesOf}
-use Rattle.body.specs.loops.Indices.{IsBody, luminanceAt, InRange, IsIndex, indexBytes, pixelIndex, indicesOf, HoldsIndices}
+use Rattle.body.specs.loops.Indices.{IsBody, luminanceAt, InRange, IsIndex, pixelIndex, indicesOf, HoldsIndices}
 use Rattle.body.proofs.Bytes.{length-indices}
 
 -- ---- a part of the words
@@ -87,18 +86,6 @@ onto-again xs ys old e = rw (← e) (ap (λ r. ys ++ r) (drop-append-seam xs (dr
 
 pub indices-held : (ws old : List ℕ) → HoldsIndices ws (onto (indicesOf (wordPixels ws)) old)
 indices-held ws old = record { front = onto-again (indicesOf (wordPixels ws)) (indicesOf (wordPixels ws)) old refl }
-
--- where no pixel is lit, the indices are zeros
-pub dark-indices : (ps : List Pixel) → length (luminancesOf ps) ≡ 0 → indicesOf ps ≡ replicate (3 * length ps) 0
-unfolding luminancesOf flatMap
-dark-indices [] none = refl
-dark-indices (p ∷ ps) none = by (luminanceOf p) none (dark-indices ps)
-  where
-    by : (y : Luminance) → length (ifLit y (luminancesOf ps)) ≡ 0
-        → (length (luminancesOf ps) ≡ 0 → indicesOf ps ≡ replicate (3 * length ps) 0)
-        → indexBytes (indexOf y) ++ indicesOf ps ≡ replicate (3 * suc (length ps)) 0
-    by Unlit e rest = let three : 3 * suc (length ps) ≡ suc (suc (suc (3 * length ps))) = omega arith in rw (three, rest e)
-    by (Lit y) e rest = absurd (omega (arith, e))
 
 pub over-indices : (ps : List Pixel) (levels old : List ℕ) → length levels ≡ 3 * length ps
     → onto levels (onto (indicesOf ps) old) ≡ onto levels old

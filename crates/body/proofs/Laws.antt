@@ -7,4 +7,4 @@ pub use Rattle.body.proofs.Luminances.{luminances-append, tally-join}
 pub use Rattle.body.proofs.Bytes.{levels-append, length-levels}
 -- indices that a tally left in an output, and levels in their place
 pub use Rattle.body.proofs.Bytes.{indices-append, length-indices}
-pub use Rattle.body.proofs.Indices.{indices-held, dark-indices, over-indices}
+pub use Rattle.body.proofs.Indices.{indices-held, over-indices}

@@ -5,7 +5,7 @@ ghost use Rattle.answers.specs.Answers.{headerAnswer, tallyAnswer, Reports};
 ghost use Rattle.answers.specs.Claims.{TallyBound, MapBound};
 ghost use Rattle.bands.specs.Checks.{readBands, checkMapBands};
 ghost use Rattle.bands.specs.Cutting.{tallStrip};
-ghost use Rattle.bands.specs.Joining.{tallyBands, joinedLevels};
+ghost use Rattle.bands.specs.Answers.{tallyBands, joinedLevels};
 use answers::headers::HeaderAnswer;
 use answers::headers::header_answer;
 use answers::tallies::TallyAnswer;

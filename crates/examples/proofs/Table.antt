@@ -18,6 +18,7 @@ use Rattle.average.specs.Averages.{storedAverage, averageOf}
 use Rattle.average.specs.Tallies.{sumOf}
 use Rattle.tone.specs.Levels.{levelOf}
 use Rattle.body.specs.Luminances.{luminancesOf}
+use Rattle.light.specs.Light.{checkLight}
 use Rattle.page.specs.Checks.{checkTally, checkMap}
 use Rattle.page.specs.Tallying.{tallyStrip}
 use Rattle.ppm.specs.Text.{decimal, twoNumbers}
@@ -29,5 +30,5 @@ pub table-holds : TableHolds
 unfolding size byRange unit exponentOf mantissaOf channelOf channelOfCode channelOfValue fieldValue rgbeValue
     require andThen sizeFits keyFits checkFrame checkSource checkSizeWord checkKeyWord decodeWord checkHead checkBody checkWith checkStrip checkOutput
     luminanceOf greatest logTest logOf rootTest rootOf storedAverage averageOf sumOf levelOf flatMap luminancesOf
-    checkTally checkMap tallyStrip decimal twoNumbers checkCount checkInput printedFor
+    checkLight checkTally checkMap tallyStrip decimal twoNumbers checkCount checkInput printedFor
 table-holds = refl

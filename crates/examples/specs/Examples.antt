@@ -96,7 +96,7 @@ answerOf (greys K bs) = let s = greyStrip K bs in pageAnswer s (tallyStrip s)
 answerOf (averaged K bs) = stepsAnswer (tallyStrip (greyStrip K bs))
 answerOf (file bytes) = prints (bytesOf (printedFor bytes))
 
--- ---- what document 01 answers
+-- ---- what the papers answer
 
 pub record Example : Type 0 where
   pub input : Input
@@ -150,6 +150,9 @@ table =
     -- 40007FFF 50007FFF 60007FFF 70000002"
     greys 180 (0x3C00 ∷ 0x3800 ∷ []) gives mapped greyWords (average (negℤ (pos 129)) 128 180) (52 ∷ 52 ∷ 52 ∷ 29 ∷ 29 ∷ 29 ∷ []) ∷
     averaged 180 (0x3C00 ∷ 0x3C00 ∷ 0x3800 ∷ []) gives steps (negℤ (pos 87)) ∷
+    -- "refused when sixteen times its lit pixels is below its pixel count" (2026-03): one lit pixel of 16, and of 17; 1.0 has −1 steps
+    averaged 180 (0x3C00 ∷ replicate 15 0) gives steps (negℤ (pos 1)) ∷
+    greys 180 (0x3C00 ∷ replicate 16 0) gives refused 9 ∷
     -- the picture program's input and output
     file greyFile gives prints greyPicture ∷
     []

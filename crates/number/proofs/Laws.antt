@@ -3,7 +3,7 @@
 
 -- lists; fractions; the rule of storing, worths in units of 2^-137, and what is stored; channels and their worths
 pub use Rattle.number.specs.Lists.{Every, Occurs}
-pub use Rattle.number.proofs.Lists.{every-map, every-occurs, occurs-some, every-take, every-drop, every-append, Filled, filled-none, filled-next}
+pub use Rattle.number.proofs.Lists.{every-map, every-occurs, every-take, every-drop, every-append, Filled, filled-none, filled-next}
 pub use Rattle.number.specs.Fractions.{Frac, _over_, _·_, _÷_, _times_, power, twoToMinus, twoTo, twoToThe}
 pub use Rattle.number.specs.Fractions.{Positive, Equal, AtMost, Below, atMost}
 pub use Rattle.number.specs.Storing.{Normalised, Scales, IsMantissa, Stores, unit, worth, storedWorth, storedOf, ratioOf}

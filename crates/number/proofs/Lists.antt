@@ -14,14 +14,10 @@ module _ {X : Type 0} where
   every-map f [] h = tt
   every-map f (x ∷ xs) h = (f x (h .0), every-map f xs (h .1))
 
-  -- of each that occurs, and there is one then
+  -- of each that occurs
   pub every-occurs : (P : X → Type 0) (xs : List X) (x : X) → Every P xs → Occurs x xs → P x
   every-occurs P [] x h o = absurd o
   every-occurs P (y ∷ xs) x h o = ⊎-elim (λ e. subst P (sym e) (h .0)) (λ r. every-occurs P xs x (h .1) r) o
-
-  pub occurs-some : (xs : List X) (x : X) → Occurs x xs → 0 < length xs
-  occurs-some [] x o = absurd o
-  occurs-some (y ∷ xs) x o = omega arith
 
   pub every-take : (P : X → Type 0) (n : ℕ) (xs : List X) → Every P xs → Every P (take n xs)
   every-take P zero xs h = tt
