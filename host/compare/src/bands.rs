@@ -44,13 +44,28 @@ pub fn row(page: &Page, heights: &[u64]) -> Vec<u32> {
     row
 }
 
+/// The strips that lie one behind another in a sound row.
+pub fn strips(row: &[u32]) -> Vec<&[u32]> {
+    let (mut list, mut rest) = (Vec::new(), row);
+    while let Some(size) = rest.first() {
+        let pixels = (size >> 14 & 0x3FFF) * (size & 0x3FFF);
+        let (strip, below) = rest.split_at(dofnihet::strip_length(pixels as usize));
+        list.push(strip);
+        rest = below;
+    }
+    list
+}
+
+/// A page of this one channel throughout, in bands of these heights.
+pub fn flat(width: u64, heights: &[u64], channel: u16) -> Vec<u32> {
+    let height: u64 = heights.iter().sum();
+    let channels = vec![channel; 3 * (width * height) as usize];
+    row(&Page::new(pages::header(width, height, 180), channels), heights)
+}
+
 /// A page without a lit pixel in bands of these heights.
 pub fn black(width: u64, heights: &[u64]) -> Vec<u32> {
-    let height: u64 = heights.iter().sum();
-    row(
-        &Page::new(pages::header(width, height, 180), vec![0; 3 * (width * height) as usize]),
-        heights,
-    )
+    flat(width, heights, 0)
 }
 
 /// Some rows of a page made black.

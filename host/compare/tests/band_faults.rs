@@ -1,6 +1,7 @@
 //! Rows of bands that are refused: each fault and each pair of faults, cut and lengthened rows, damaged words, and sizes around the limits.
 
 use compare::band_faults::{alone_and_in_pairs, faults};
+use compare::light::{Light, DARK};
 use compare::pages::{self, Look};
 use compare::rounds::band_fault_case;
 use compare::{bands, damage, same, Compare, Library, Random};
@@ -27,11 +28,12 @@ fn cut_rows() {
     for (width, heights) in [(1, vec![1, 1, 1]), (2, vec![1, 3, 2]), (3, vec![2, 1]), (1, vec![5, 1, 1, 4])] {
         let page = pages::page(random, Look::Mixed, width, heights.iter().sum());
         let row = bands::row(&page, &heights);
-        let end = |count: usize| (3 * width as usize) * heights[..count].iter().sum::<u64>() as usize + 3 * count;
-        let ends: Vec<usize> = (1..=heights.len()).map(end).collect();
+        let channels = |bands: usize| (3 * width * heights[..bands].iter().sum::<u64>()) as usize;
+        let ended = |count: usize| (1..=heights.len()).find(|&bands| channels(bands) + 3 * bands == count);
         for count in 0..=row.len() {
             let told = same(seed, compare.bands(&row[..count]));
-            assert_eq!(told, if ends.contains(&count) { (0, 0) } else { (3, 0) }, "{count} words");
+            let expected = ended(count).map_or((3, 0), |bands| Light::of(&page.channels[..channels(bands)]).told());
+            assert_eq!(told, expected, "{count} words");
         }
     }
     println!("cut rows of bands, seed {seed}: {}", compare.counts);
@@ -116,7 +118,8 @@ fn heights_at_limit() {
     let mut compare = Compare::new(&Library);
     for width in [1, 3] {
         for heights in [vec![8192], vec![8191, 1], vec![1, 8191], vec![4096, 4096], vec![1, 8190, 1]] {
-            assert_eq!(compare.bands(&bands::black(width, &heights)).unwrap(), (0, 0), "{heights:?}");
+            assert_eq!(compare.bands(&bands::flat(width, &heights, 0x80FF)).unwrap(), (0, 0), "{heights:?}");
+            assert_eq!(compare.bands(&bands::black(width, &heights)).unwrap(), DARK, "{heights:?}");
         }
         for heights in [vec![8192, 1], vec![1, 8192], vec![4096, 4097], vec![8191, 1, 1], vec![8192, 8192]] {
             assert_eq!(compare.bands(&bands::black(width, &heights)).unwrap(), (21, 0), "{heights:?}");

@@ -134,7 +134,7 @@ fn by_both(step: &SecondStep, page: &Page, strip: &[u32], row: &[u32]) -> (ByLib
 
 #[test]
 fn a_page_of_all_pixels() {
-    let (page, step) = (large(), SecondStep::new(Rules::BASE));
+    let (page, step) = (large(), SecondStep::new(Rules::BUILT));
     let (strip, row, kept) = (page.strip(), in_bands(&page), page.clone());
     let (library, second, of_bands) = by_both(&step, &page, &strip, &row);
     assert_eq!(library.outcomes, [ACCEPTED; 4]);

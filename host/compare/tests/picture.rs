@@ -1,5 +1,6 @@
 //! The picture program's standard output, byte for byte.
 
+use compare::light::DARK;
 use compare::pages::{self, Look, LOOKS};
 use compare::program::{self, Printed};
 use compare::{damage, same, strip_faults, Random};
@@ -8,24 +9,29 @@ use std::time::Duration;
 
 const SEED: u64 = 801;
 
-/// Accepted pages of each look, small ones and the greatest that fit.
+/// Sound pages of each look, small ones and the greatest that fit; the dark ones are refused.
 #[test]
-fn accepted() {
+fn sound() {
     let seed = SEED;
     let (random, mut printed) = (&mut Random::new(seed), Printed::default());
     for (look, _) in LOOKS.iter().flat_map(|look| (0..8).map(move |i| (*look, i))) {
         let (width, height) = pages::small_size(random);
-        let picture = same(
-            seed,
-            printed.same(&program::bytes(&pages::page(random, look, width, height).strip())),
-        );
-        assert!(picture.starts_with(format!("P6\n{width} {height}\n255\n").as_bytes()));
+        let page = pages::page(random, look, width, height);
+        let picture = same(seed, printed.same(&program::bytes(&page.strip())));
+        let front = match page.told() {
+            DARK => "refused 9 0\n".to_string(),
+            _ => format!("P6\n{width} {height}\n255\n"),
+        };
+        assert!(picture.starts_with(front.as_bytes()));
     }
     for (width, height) in [(5460, 1), (1, 5460), (84, 65), (70, 78), (2730, 2)] {
         let strip = pages::page(random, Look::Wide, width, height).strip();
         assert!(same(seed, printed.same(&program::bytes(&strip))).starts_with(b"P6\n"));
     }
-    println!("pictures accepted, seed {seed}: {} inputs", printed.inputs);
+    println!(
+        "pictures of sound pages, seed {seed}: {} inputs, {} refused",
+        printed.inputs, printed.refused
+    );
 }
 
 /// Damaged strips, and each fault of a strip.
@@ -35,7 +41,7 @@ fn refused() {
     let (random, mut printed) = (&mut Random::new(seed), Printed::default());
     for fault in strip_faults::faults() {
         let case = strip_faults::Case::sound().with(&[fault]);
-        let (number, place) = strip_faults::first(&[fault], strip_faults::Asked::Strip);
+        let (number, place) = strip_faults::first(&[fault], strip_faults::Asked::Tally);
         let answer = same(seed, printed.same(&program::bytes(&case.strip)));
         if number > 0 {
             assert_eq!(answer, format!("refused {number} {place}\n").as_bytes());

@@ -18,7 +18,7 @@ planted! {
     Lit Sum Present Average Exponent Mantissa TallyOfRefused
     DarkestExponent DarkestMantissa BrightestExponent BrightestMantissa ExtremesExchanged
     DarkestExponentOfRefused DarkestMantissaOfRefused BrightestExponentOfRefused BrightestMantissaOfRefused
-    DarkestExponentOfBlack DarkestMantissaOfBlack BrightestExponentOfBlack BrightestMantissaOfBlack
+    DarkestExponentOfDark DarkestMantissaOfDark BrightestExponentOfDark BrightestMantissaOfDark
 }
 
 use Planted::*;
@@ -43,8 +43,7 @@ impl Planted {
     }
 
     fn extremes(self, told: Tally) -> Tally {
-        let (lit, refused) = (told.lit > 0, told.number > 0);
-        let black = !lit && !refused;
+        let (lit, refused, dark) = (told.lit > 0, told.number > 0, told.number == 9);
         let mut planted = told;
         match self {
             DarkestExponent if lit => planted.darkest_exponent += 1,
@@ -59,10 +58,10 @@ impl Planted {
             DarkestMantissaOfRefused if refused => planted.darkest_mantissa = 255,
             BrightestExponentOfRefused if refused => planted.brightest_exponent = 72,
             BrightestMantissaOfRefused if refused => planted.brightest_mantissa = 255,
-            DarkestExponentOfBlack if black => planted.darkest_exponent = 72,
-            DarkestMantissaOfBlack if black => planted.darkest_mantissa = 255,
-            BrightestExponentOfBlack if black => planted.brightest_exponent = 72,
-            BrightestMantissaOfBlack if black => planted.brightest_mantissa = 255,
+            DarkestExponentOfDark if dark => planted.darkest_exponent = 72,
+            DarkestMantissaOfDark if dark => planted.darkest_mantissa = 255,
+            BrightestExponentOfDark if dark => planted.brightest_exponent = 72,
+            BrightestMantissaOfDark if dark => planted.brightest_mantissa = 255,
             _ => (),
         }
         planted

@@ -190,6 +190,7 @@ impl Calls for Planted {
         match fault {
             Some(fault) => return fault,
             None if bands.is_empty() => return outcome(0, 0),
+            None if Library.tally(&tall(&bands)).number == 9 => return outcome(9, 0),
             None if output.len() < self.needed(row, &bands) => return outcome(4, 0),
             None => (),
         }
