@@ -89,11 +89,49 @@ pub fn page(random: &mut Random, (width, height): (u64, u64), lit: u64, lie: Whe
     Page::new(pages::header(width, height, 180), channels)
 }
 
-/// The number of lit pixels that brings sixteen times it to the pixel count, or nearer than two to it.
-pub fn edge((width, height): (u64, u64)) -> u64 {
-    let (lit, below) = ((width * height + 1) / 16, (width * height + 1) % 16);
-    assert!(below <= 2, "{width} x {height} is not at the edge");
-    lit
+/// Shapes with a pixel fewer than a multiple of sixteen, just as many, or a pixel more; up to 8,193 pixels.
+pub const EDGES: [(u64, u64); 19] = [
+    (1, 1),
+    (3, 5),
+    (4, 4),
+    (1, 17),
+    (1, 31),
+    (4, 8),
+    (11, 3),
+    (7, 9),
+    (8, 8),
+    (13, 5),
+    (15, 17),
+    (16, 16),
+    (257, 1),
+    (63, 65),
+    (64, 64),
+    (17, 241),
+    (8191, 1),
+    (1, 8192),
+    (2731, 3),
+];
+
+/// The number of lit pixels that brings sixteen times it nearest to the pixel count of such a shape, and what is told then.
+pub fn edge((width, height): (u64, u64)) -> (u64, Told) {
+    let pixels = width * height;
+    match pixels % 16 {
+        15 => ((pixels + 1) / 16, ACCEPTED),
+        0 => (pixels / 16, ACCEPTED),
+        1 => ((pixels - 1) / 16, DARK),
+        _ => panic!("{width} x {height} is not at the edge"),
+    }
+}
+
+/// A page at the edge, and what is told of it.
+pub fn page_at_edge(random: &mut Random, shape: (u64, u64), lie: Where, colour: [u16; 3]) -> (Page, Told) {
+    let (lit, told) = edge(shape);
+    (page(random, shape, lit, lie, colour), told)
+}
+
+/// Every way for lit pixels to lie and every colour.
+pub fn ways() -> impl Iterator<Item = (Where, [u16; 3])> {
+    WHERE.into_iter().flat_map(|lie| COLOURS.map(|colour| (lie, colour)))
 }
 
 #[cfg(test)]

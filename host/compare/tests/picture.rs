@@ -1,13 +1,21 @@
 //! The picture program's standard output, byte for byte.
 
-use compare::light::DARK;
-use compare::pages::{self, Look, LOOKS};
+use compare::light::{self, DARK};
+use compare::pages::{self, Look, Page, LOOKS};
 use compare::program::{self, Printed};
-use compare::{damage, same, strip_faults, Random};
+use compare::{damage, same, strip_faults, Random, Told};
 use std::fs::File;
 use std::time::Duration;
 
 const SEED: u64 = 801;
+
+/// How the picture of a page begins that is told this.
+fn front(page: &Page, told: Told) -> String {
+    match told {
+        DARK => "refused 9 0\n".to_string(),
+        _ => format!("P6\n{} {}\n255\n", page.width, page.height),
+    }
+}
 
 /// Sound pages of each look, small ones and the greatest that fit; the dark ones are refused.
 #[test]
@@ -18,11 +26,7 @@ fn sound() {
         let (width, height) = pages::small_size(random);
         let page = pages::page(random, look, width, height);
         let picture = same(seed, printed.same(&program::bytes(&page.strip())));
-        let front = match page.told() {
-            DARK => "refused 9 0\n".to_string(),
-            _ => format!("P6\n{width} {height}\n255\n"),
-        };
-        assert!(picture.starts_with(front.as_bytes()));
+        assert!(picture.starts_with(front(&page, page.told()).as_bytes()));
     }
     for (width, height) in [(5460, 1), (1, 5460), (84, 65), (70, 78), (2730, 2)] {
         let strip = pages::page(random, Look::Wide, width, height).strip();
@@ -30,6 +34,28 @@ fn sound() {
     }
     println!(
         "pictures of sound pages, seed {seed}: {} inputs, {} refused",
+        printed.inputs, printed.refused
+    );
+}
+
+/// Pages at the edge of darkness, as large as fit.
+#[test]
+fn dark() {
+    let seed = SEED + 4;
+    let (random, mut printed) = (&mut Random::new(seed), Printed::default());
+    let fits = |shape: &&(u64, u64)| shape.0 * shape.1 <= 5460;
+    for (shape, lie) in light::EDGES
+        .iter()
+        .filter(fits)
+        .flat_map(|shape| light::WHERE.map(|lie| (*shape, lie)))
+    {
+        let colour = random.pick(&light::COLOURS);
+        let (page, told) = light::page_at_edge(random, shape, lie, colour);
+        let picture = same(seed, printed.same(&program::bytes(&page.strip())));
+        assert!(picture.starts_with(front(&page, told).as_bytes()), "{shape:?}");
+    }
+    println!(
+        "pictures at the edge, seed {seed}: {} inputs, {} refused",
         printed.inputs, printed.refused
     );
 }
