@@ -7,7 +7,7 @@ use compare::lent::Lent;
 use compare::light::{self, Light, DARK};
 use compare::pages::{self, Look, Page};
 use compare::rounds::converted;
-use compare::{bands, same, values, Calls, Compare, Kind, Library, Random, Told};
+use compare::{bands, damage, same, values, Calls, Compare, Kind, Library, Random, Told};
 use dofnihet::raw::{Header, Outcome, Step, Tally};
 use dofnihet::Source;
 use second::{LevelDistances, Rules, SecondStep};
@@ -201,19 +201,21 @@ fn dark_pages() {
     }
 }
 
-/// The page of all pixels with just enough light, all of it in the first bands, and with one lit pixel fewer.
+/// The page of all pixels with just enough light, all of it in the first bands, and the same without its first pixel.
 #[test]
 fn dark_bands() {
-    for (lit, expected) in [(1 << 20, (0, 0)), ((1 << 20) - 1, DARK)] {
-        let page = grey_front((WIDTH, HEIGHT), lit);
-        let (strip, row) = (page.strip(), in_bands(&page));
+    let page = grey_front((WIDTH, HEIGHT), WIDTH * HEIGHT / 16);
+    let (mut strip, mut row) = (page.strip(), in_bands(&page));
+    for expected in [(0, 0), DARK] {
         assert_eq!((Library.check(&strip), Library.header_of_bands(&row).number), (ACCEPTED, 0));
         told_light(&page, expected, Library.tally(&strip), |output| Library.map(&strip, output));
         told_light(&page, expected, Library.tally_of_bands(&row), |output| {
             Library.map_bands(&row, output)
         });
-        println!("large page in bands: {lit} lit, told {expected:?}");
+        damage::blacken(&mut strip[2..5]);
+        damage::blacken(&mut row[2..5]);
     }
+    println!("large page in bands at the edge: with its first pixel and without");
 }
 
 /// A page of 2^20 pixels and its strip through every call.
