@@ -1,6 +1,6 @@
 //! Pages cut into bands: strips of whole rows, one behind another in one row of words.
 
-use crate::pages::{self, Page, LOOKS};
+use crate::pages::{self, Look, Page, LOOKS};
 use crate::random::Random;
 
 /// Cut above each row that is asked for; the first is never.
@@ -92,13 +92,18 @@ pub fn page(random: &mut Random) -> Page {
     page
 }
 
-/// Two to four small pages whose widths and keys may differ.
+/// Two to four small pages whose widths and keys may differ; sometimes most of them are black.
 pub fn several(random: &mut Random) -> Vec<Page> {
     let count = random.between(2, 4);
     let odd = random.between(2, 5);
+    let looks: &[Look] = if random.one_in(8) {
+        &[Look::Black, Look::Black, Look::Lone]
+    } else {
+        &LOOKS
+    };
     let one = |random: &mut Random| {
         let (width, height) = (2 - random.one_in(odd) as u64, random.between(1, 3));
-        let look = random.pick(&LOOKS);
+        let look = random.pick(looks);
         let mut page = pages::page(random, look, width, height);
         page.key = 180 + random.one_in(odd) as u64;
         page

@@ -1,6 +1,6 @@
 //! Rows of bands that are refused: each fault and each pair of faults, cut and lengthened rows, damaged words, and sizes around the limits.
 
-use compare::band_faults::{alone_and_in_pairs, faults};
+use compare::band_faults::{alone_and_in_pairs, faults, Fault};
 use compare::light::{Light, DARK};
 use compare::pages::{self, Look};
 use compare::rounds::band_fault_case;
@@ -8,7 +8,8 @@ use compare::{bands, damage, same, Compare, Library, Random};
 
 const SEED: u64 = 1501;
 
-/// Each fault in each of three bands, and each pair in one band and in two, for every call.
+/// Each fault in each of three bands, and each pair in one band and in two, for every call; on dark bands too, unless the row is too high
+/// already.
 #[test]
 fn one_and_two_faults() {
     let mut compare = Compare::new(&Library);
@@ -16,8 +17,18 @@ fn one_and_two_faults() {
     for faults in &cases {
         band_fault_case(&mut compare, faults).unwrap();
     }
+    let darkened = |fault: &Fault| !matches!(fault, Fault::Black(..) | Fault::Above(_));
+    let dark: Vec<&Vec<Fault>> = cases.iter().filter(|faults| faults.iter().all(darkened)).collect();
+    for faults in &dark {
+        band_fault_case(&mut compare, &[&[Fault::Black(0, 3)], &faults[..]].concat()).unwrap();
+    }
     band_fault_case(&mut compare, &[]).unwrap();
-    println!("faults of bands: {} cases, {}", cases.len(), compare.counts);
+    println!(
+        "faults of bands: {} cases, {} on dark bands too, {}",
+        cases.len(),
+        dark.len(),
+        compare.counts
+    );
 }
 
 /// Rows of bands cut at every length: only an end between two bands leaves a row.
