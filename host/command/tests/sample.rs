@@ -42,7 +42,7 @@ fn session(folder: &Folder, command: &str) -> String {
 
 /// What the second tone step finds.
 fn extremes() -> Extremes {
-    SecondStep::new(Rules::BASE).tally(&words(STRIP)).unwrap().extremes.unwrap()
+    SecondStep::new(Rules::BUILT).tally(&words(STRIP)).unwrap().extremes.unwrap()
 }
 
 #[test]

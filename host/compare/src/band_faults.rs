@@ -2,7 +2,9 @@
 
 use crate::bands;
 use crate::compare::{Told, ACCEPTED};
-use crate::strip_faults::{self, answer, order};
+use crate::damage;
+use crate::light::DARK;
+use crate::strip_faults::{self, answer, order, Asked};
 
 #[derive(Clone, Copy, Debug, PartialEq, Eq)]
 pub enum Fault {
@@ -18,6 +20,8 @@ pub enum Fault {
     Cut(usize, usize),
     /// So many bytes fewer than needed; all of them where more are taken than there are.
     Room(usize),
+    /// Every pixel of the bands from this one to before that one black: no fault unless all three are.
+    Black(usize, usize),
 }
 
 const BANDS: usize = 3;
@@ -60,6 +64,7 @@ impl Case {
             Fault::Above(band) => self.above = Some(band),
             Fault::Cut(band, words) => self.cut = Some((band, words)),
             Fault::Room(fewer) => self.fewer = fewer,
+            Fault::Black(from, to) => self.bands[from..to].iter_mut().for_each(|band| damage::blacken(&mut band.strip)),
         }
     }
 
@@ -78,14 +83,17 @@ impl Case {
     }
 }
 
-/// Every fault on its own.
+/// Every fault on its own. Those that blacken words come first.
 pub fn faults() -> Vec<Fault> {
-    use strip_faults::Fault::{Length, Room, Row, Short};
+    use strip_faults::Fault::{Dark, Length, Room, Row, Short};
     let of_strip: Vec<strip_faults::Fault> = strip_faults::faults()
         .into_iter()
-        .filter(|fault| !matches!(fault, Row(_) | Room(_) | Length(_) | Short(_)))
+        .filter(|fault| !matches!(fault, Row(_) | Room(_) | Length(_) | Short(_) | Dark))
         .collect();
-    let mut list = vec![Fault::Cut(0, 0)];
+    let mut list: Vec<Fault> = [(0, 1), (1, 2), (2, 3), (0, 2), (0, 3)]
+        .map(|(from, to)| Fault::Black(from, to))
+        .to_vec();
+    list.push(Fault::Cut(0, 0));
     for band in 0..BANDS {
         list.extend(of_strip.iter().map(|fault| Fault::In(band, *fault)));
         list.extend([1, 4].map(|width| Fault::Width(band, width)));
@@ -106,7 +114,7 @@ pub fn together(one: Fault, other: Fault) -> bool {
         (Fault::Key(band, _), Fault::Key(other, _) | Fault::In(other, Key(_))) => band != other,
         (Fault::In(..), Fault::Width(..) | Fault::Key(..)) => together(other, one),
         (Fault::Above(_), Fault::Above(_) | Fault::Cut(0, 0)) | (Fault::Cut(0, 0), Fault::Above(_)) => false,
-        (Fault::Cut(..), Fault::Cut(..)) | (Fault::Room(_), Fault::Room(_)) => false,
+        (Fault::Cut(..), Fault::Cut(..)) | (Fault::Room(_), Fault::Room(_)) | (Fault::Black(..), Fault::Black(..)) => false,
         _ => true,
     }
 }
@@ -118,7 +126,7 @@ pub fn alone_and_in_pairs(list: &[Fault]) -> Vec<Vec<Fault>> {
     list.iter().map(|fault| vec![*fault]).chain(pairs).collect()
 }
 
-/// Where a fault is asked for: the band, whether behind the band's own checks, and where among those.
+/// Where a fault is asked for: the band, whether behind the band's own checks, and where among those; behind all bands dark, then room.
 type Stage = (usize, bool, usize);
 
 /// Where a fault is asked for, and what is told then; not of widths and keys, which must be held against the first band's.
@@ -133,8 +141,9 @@ fn asked(fault: Fault, start: u64) -> Option<(Stage, Told)> {
             Some(((band, false, order(fault)), answer(fault)))
         }
         Fault::Above(band) => Some(((band, true, 0), (21, 0))),
+        Fault::Black(0, BANDS) => Some(((BANDS, false, 0), DARK)),
         Fault::Room(_) => Some(((BANDS, true, 0), (4, 0))),
-        Fault::Width(..) | Fault::Key(..) => None,
+        Fault::Width(..) | Fault::Key(..) | Fault::Black(..) => None,
     }
 }
 
@@ -160,14 +169,23 @@ fn unlike(faults: &[Fault], above: bool) -> Option<(Stage, Told)> {
     Some(((band - above as usize, true, 0), (21, 0)))
 }
 
-/// What is told where these faults, and no others, are there.
-pub fn first(faults: &[Fault], output: bool) -> Told {
+/// Whether the call looks for the fault at all.
+fn seen(fault: Fault, asked: Asked) -> bool {
+    match fault {
+        Fault::Room(_) => asked == Asked::Map,
+        Fault::Black(..) => asked != Asked::Strip,
+        _ => true,
+    }
+}
+
+/// What is told where these faults, and no others, are there; the header is asked for as a strip's check.
+pub fn first(faults: &[Fault], asked_for: Asked) -> Told {
     let above = faults.iter().find_map(|fault| match fault {
         Fault::Above(band) => Some(*band),
         _ => None,
     });
     let start = above.map_or(0, |band| dofnihet::strip_length(2 * height_above(band) as usize)) as u64;
-    let seen = faults.iter().filter(|fault| output || !matches!(fault, Fault::Room(_)));
+    let seen = faults.iter().filter(|fault| seen(**fault, asked_for));
     let all = seen.filter_map(|fault| asked(*fault, start)).chain(unlike(faults, above.is_some()));
     all.min_by_key(|(stage, _)| *stage).map_or(ACCEPTED, |(_, told)| told)
 }

@@ -1,6 +1,6 @@
 //! Pages cut into bands: strips of whole rows, one behind another in one row of words.
 
-use crate::pages::{self, Page, LOOKS};
+use crate::pages::{self, Look, Page, LOOKS};
 use crate::random::Random;
 
 /// Cut above each row that is asked for; the first is never.
@@ -44,13 +44,28 @@ pub fn row(page: &Page, heights: &[u64]) -> Vec<u32> {
     row
 }
 
+/// The strips that lie one behind another in a sound row.
+pub fn strips(row: &[u32]) -> Vec<&[u32]> {
+    let (mut list, mut rest) = (Vec::new(), row);
+    while let Some(size) = rest.first() {
+        let pixels = (size >> 14 & 0x3FFF) * (size & 0x3FFF);
+        let (strip, below) = rest.split_at(dofnihet::strip_length(pixels as usize));
+        list.push(strip);
+        rest = below;
+    }
+    list
+}
+
+/// A page of this one channel throughout, in bands of these heights.
+pub fn flat(width: u64, heights: &[u64], channel: u16) -> Vec<u32> {
+    let height: u64 = heights.iter().sum();
+    let channels = vec![channel; 3 * (width * height) as usize];
+    row(&Page::new(pages::header(width, height, 180), channels), heights)
+}
+
 /// A page without a lit pixel in bands of these heights.
 pub fn black(width: u64, heights: &[u64]) -> Vec<u32> {
-    let height: u64 = heights.iter().sum();
-    row(
-        &Page::new(pages::header(width, height, 180), vec![0; 3 * (width * height) as usize]),
-        heights,
-    )
+    flat(width, heights, 0)
 }
 
 /// Some rows of a page made black.
@@ -77,13 +92,18 @@ pub fn page(random: &mut Random) -> Page {
     page
 }
 
-/// Two to four small pages whose widths and keys may differ.
+/// Two to four small pages whose widths and keys may differ; sometimes most of them are black.
 pub fn several(random: &mut Random) -> Vec<Page> {
     let count = random.between(2, 4);
     let odd = random.between(2, 5);
+    let looks: &[Look] = if random.one_in(8) {
+        &[Look::Black, Look::Black, Look::Lone]
+    } else {
+        &LOOKS
+    };
     let one = |random: &mut Random| {
         let (width, height) = (2 - random.one_in(odd) as u64, random.between(1, 3));
-        let look = random.pick(&LOOKS);
+        let look = random.pick(looks);
         let mut page = pages::page(random, look, width, height);
         page.key = 180 + random.one_in(odd) as u64;
         page

@@ -4,6 +4,7 @@ use crate::calls::Calls;
 use crate::counts::Counts;
 use crate::elements::Elements;
 use crate::lent::{Element, Lent};
+use crate::light::Light;
 use crate::random::Random;
 use dofnihet::raw::{Header as RawHeader, Outcome, Row, Step, Tally};
 use dofnihet::{Header, Source};
@@ -46,7 +47,7 @@ impl<'a> Compare<'a> {
     pub fn new(calls: &'a dyn Calls) -> Compare<'a> {
         Compare {
             calls,
-            second: SecondStep::new(Rules::BASE),
+            second: SecondStep::new(Rules::BUILT),
             counts: Counts::none(),
             mean_limit: 12,
             salt: 0,
@@ -145,9 +146,10 @@ impl<'a> Compare<'a> {
         self.write(strip, room, expected, |read, output| calls.map(read, output), &what)
     }
 
-    /// Every call on a strip, with several rows, steps and outputs, and demand 3 where the page is lit.
+    /// Every call on a strip, with several rows, steps and outputs, and demand 3 where the page is accepted. It tells what tally and map do,
+    /// which refuse a dark page too.
     pub fn strip(&mut self, strip: &[u32]) -> Result<Told, Difference> {
-        let told = self.check(strip)?;
+        let sound = self.check(strip)? == ACCEPTED;
         self.header(strip)?;
         for y in rows(strip) {
             self.row(strip, y)?;
@@ -158,23 +160,36 @@ impl<'a> Compare<'a> {
         let tally = self.tally(strip)?;
         let needed = strip.len().saturating_sub(3);
         self.unpack(strip, needed + 7)?;
-        let (_, levels) = self.map(strip, needed + 7)?;
+        let (told, levels) = self.map(strip, needed + 7)?;
         for room in other_rooms(needed) {
             self.unpack(strip, room)?;
             self.map(strip, room)?;
         }
-        if told == ACCEPTED {
-            self.demand(strip, &tally, &levels)?;
+        if sound {
+            self.page(strip, told, &tally, &levels)?;
         }
         Ok(told)
     }
 
+    /// A sound strip by its lit pixels: tally and map refuse it as dark, or demand 3 holds.
+    pub(crate) fn page(&mut self, strip: &[u32], told: Told, tally: &Tally, levels: &[u8]) -> Result<(), Difference> {
+        let light = Light::of(&strip[2..strip.len() - 1]);
+        self.counts.light(light);
+        if [told, (tally.number, tally.place)] != [light.told(); 2] {
+            return Err(Difference(format!("{light:?} does not tell {told:?} of {}", show_strip(strip))));
+        }
+        match light.is_dark() {
+            true => Ok(()),
+            false => self.demand(strip, tally, levels),
+        }
+    }
+
     /// Demand 3 on an accepted page, with the average and levels that the library told.
-    pub fn demand(&mut self, strip: &[u32], tally: &Tally, levels: &[u8]) -> Result<(), Difference> {
+    fn demand(&mut self, strip: &[u32], tally: &Tally, levels: &[u8]) -> Result<(), Difference> {
         self.counts.pages += 1;
         self.counts.pixels += levels.len() as u64 / 3;
-        if tally.present == 0 {
-            return Ok(());
+        if !is_whole(tally) {
+            return Err(Difference(format!("{tally:?} lacks a number of {}", show_strip(strip))));
         }
         self.distances(strip, tally, levels)?;
         if tally.lit <= self.mean_limit {
@@ -326,6 +341,12 @@ pub fn raw_tally(answer: &Result<second::Tally, Refusal>) -> Tally {
         brightest_exponent,
         brightest_mantissa,
     }
+}
+
+/// Whether average, darkest and brightest are there.
+fn is_whole(tally: &Tally) -> bool {
+    let mantissas = [tally.mantissa, tally.darkest_mantissa, tally.brightest_mantissa];
+    tally.present == 1 && mantissas.iter().all(|mantissa| (128..=255).contains(mantissa))
 }
 
 /// Exponent and mantissa.

@@ -1,7 +1,7 @@
 //! The calls on bands made on both sides, and the tall page beside them.
 
 use crate::bands;
-use crate::compare::{different, equal, other_rooms, raw_header, raw_tally, show_strip, told, Compare, Difference, Told, ACCEPTED};
+use crate::compare::{different, equal, other_rooms, raw_header, raw_tally, show_strip, told, Compare, Difference, Told};
 use crate::pages::Page;
 use dofnihet::raw::{Header, Tally};
 
@@ -33,25 +33,27 @@ impl Compare<'_> {
         self.write(row, room, expected, |read, output| calls.map_bands(read, output), &what)
     }
 
-    /// Every call on bands, with several outputs; where they are accepted also the tall page, and demand 3 on it.
+    /// Every call on bands, with several outputs; where they are sound also the tall page, and demand 3 where that is accepted. It tells what
+    /// tally and map do.
     pub fn bands(&mut self, row: &[u32]) -> Result<Told, Difference> {
         let (header, tally) = (self.header_of_bands(row)?, self.tally_of_bands(row)?);
         let (told, levels) = self.map_bands(row, row.len() + 7)?;
-        let needed = match told {
-            ACCEPTED => levels.len(),
-            _ => row.len().saturating_sub(3),
+        let sound = header.number == 0;
+        let needed = match sound {
+            true => 3 * (header.width * header.height) as usize,
+            false => row.len().saturating_sub(3),
         };
         for room in other_rooms(needed) {
             self.map_bands(row, room)?;
         }
-        if told == ACCEPTED {
-            self.tall_page(row, header, tally, &levels)?;
+        if sound {
+            self.tall_page(row, header, tally, (told, levels))?;
         }
         Ok(told)
     }
 
     /// What the library tells of the one tall strip is what it told of the bands.
-    fn tall_page(&mut self, row: &[u32], header: Header, tally: Tally, levels: &[u8]) -> Result<(), Difference> {
+    fn tall_page(&mut self, row: &[u32], header: Header, tally: Tally, mapped: (Told, Vec<u8>)) -> Result<(), Difference> {
         let what = || format!("the tall page of bands, {}", show_strip(row));
         let tall = self.second.tall_strip(row);
         let tall = tall.map_err(|refusal| different(&what, format!("the second step refuses it with {refusal:?}")))?;
@@ -59,18 +61,18 @@ impl Compare<'_> {
         if of_tall != (header, tally) {
             return Err(different(&what, format!("{of_tall:?} is not {:?}", (header, tally))));
         }
-        let (_, of_tall) = self.map(&tall, levels.len())?;
-        if of_tall != levels {
-            return Err(different(&what, format!("levels {of_tall:?} are not {levels:?}")));
+        let of_tall = self.map(&tall, tall.len() - 3)?;
+        if of_tall != mapped {
+            return Err(different(&what, format!("levels {of_tall:?} are not {mapped:?}")));
         }
-        self.demand(&tall, &tally, levels)
+        self.page(&tall, mapped.0, &tally, &mapped.1)
     }
 
-    /// The bands of a page that is cut into these heights are accepted, and the page is their tall one.
+    /// The bands of a page that is cut into these heights are told what the page is, and it is their tall one.
     pub fn cutting(&mut self, page: &Page, heights: &[u64]) -> Result<(), Difference> {
         let (strip, row) = (page.strip(), bands::row(page, heights));
         let what = || format!("heights {heights:?} of {}", show_strip(&strip));
-        equal(&ACCEPTED, &self.bands(&row)?, &what)?;
+        equal(&page.told(), &self.bands(&row)?, &what)?;
         match self.second.tall_strip(&row) == Ok(strip.clone()) && self.second.cut(&strip, heights) == row {
             true => Ok(()),
             false => Err(different(&what, "the second step cuts or joins otherwise".to_string())),

@@ -1,5 +1,6 @@
 //! What was compared, for one line of print.
 
+use crate::light::Light;
 use std::fmt;
 
 #[derive(Clone, Debug)]
@@ -7,10 +8,13 @@ pub struct Counts {
     /// Calls made on both sides, and those that both refused.
     pub calls: u64,
     pub refused: u64,
-    /// Accepted strips and rows of bands whose levels were compared, their pixels, and those of lit pages whose distance was measured.
+    /// Accepted strips and rows of bands whose levels were compared, their pixels, and those levels whose distance was measured.
     pub pages: u64,
     pub pixels: u64,
     pub levels: u64,
+    /// Dark ones, and those, dark or accepted, of which one lit pixel more or fewer decides.
+    pub dark: u64,
+    pub edge: u64,
     /// The greatest distance of a level from the exact value.
     pub worst: f64,
     /// Pages whose mean was checked exactly, and how far it lay above the reported average.
@@ -27,6 +31,8 @@ impl Counts {
             pages: 0,
             pixels: 0,
             levels: 0,
+            dark: 0,
+            edge: 0,
             worst: 0.0,
             means: 0,
             mean_low: f64::INFINITY,
@@ -40,10 +46,17 @@ impl Counts {
         self.pages += other.pages;
         self.pixels += other.pixels;
         self.levels += other.levels;
+        self.dark += other.dark;
+        self.edge += other.edge;
         self.worst = self.worst.max(other.worst);
         self.means += other.means;
         self.mean_low = self.mean_low.min(other.mean_low);
         self.mean_high = self.mean_high.max(other.mean_high);
+    }
+
+    pub fn light(&mut self, light: Light) {
+        self.dark += light.is_dark() as u64;
+        self.edge += light.is_at_edge() as u64;
     }
 
     pub fn mean(&mut self, above: f64) {
@@ -58,6 +71,9 @@ impl fmt::Display for Counts {
         write!(f, "{} calls ({} refused)", self.calls, self.refused)?;
         if self.pages > 0 {
             write!(f, ", {} pages, {} pixels", self.pages, self.pixels)?;
+        }
+        if self.dark + self.edge > 0 {
+            write!(f, ", {} dark, {} at the edge", self.dark, self.edge)?;
         }
         if self.levels > 0 {
             write!(f, ", {} levels within {:.4}", self.levels, self.worst)?;

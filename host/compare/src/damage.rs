@@ -45,13 +45,20 @@ fn change(random: &mut Random, strip: &mut Vec<u32>) {
         return;
     }
     let place = random.below(count) as usize;
-    match random.below(8) {
+    match random.below(9) {
         0 => strip[place] = random.bits() as u32,
         1 => strip.truncate(place),
         2 => strip.push(random.bits() as u32),
         3 => strip.swap(place, random.below(count) as usize),
         4 => strip[place] = strip[place] & 0xFFFF_0000 | random.below(65536) as u32,
         5 => strip[place] = strip[place] & 0x0FFF_FFFF | (random.below(16) as u32) << 28,
+        6 => blacken(&mut strip[place..]),
         _ => strip[place] ^= 1 << random.below(32),
     }
+}
+
+/// Every channel black.
+pub fn blacken(words: &mut [u32]) {
+    let channels = words.iter_mut().filter(|word| (4..=6).contains(&(**word >> 28)));
+    channels.for_each(|word| *word &= 0xFFFF_0000);
 }

@@ -1,5 +1,5 @@
 //! The proved library held against the second tone step, call by call, through the C interface. Generators of pages, sources, faults and
-//! damage; comparisons that see every field and every element of lent memory; demand 3 of document 01 on each lit page.
+//! damage; comparisons that see every field and every element of lent memory; demand 3 of document 01 on each accepted page.
 
 pub mod band_faults;
 pub mod bands;
@@ -10,6 +10,7 @@ pub mod counts;
 pub mod damage;
 pub mod elements;
 pub mod lent;
+pub mod light;
 pub mod limits;
 pub mod pages;
 pub mod planted;

@@ -1,5 +1,7 @@
 //! Pages as stored channels, 256E + M or 0, and the strips of them.
 
+use crate::compare::Told;
+use crate::light::{self, Light};
 use crate::powers;
 use crate::random::Random;
 use dofnihet::Header;
@@ -36,6 +38,11 @@ impl Page {
         strip.extend(self.channels.iter().enumerate().map(|(i, &c)| (4 + i as u32 % 3) << 28 | c as u32));
         strip.push(7 << 28 | (self.channels.len() / 3) as u32);
         strip
+    }
+
+    /// What tally and map tell of it.
+    pub fn told(&self) -> Told {
+        Light::of(&self.channels).told()
     }
 
     /// Pixel n, counted from 0, where there is one.
@@ -110,9 +117,11 @@ pub enum Look {
     Black,
     /// One pixel lit.
     Lone,
+    /// As few pixels lit as are enough, one more or one fewer.
+    Few,
 }
 
-pub const LOOKS: [Look; 13] = [
+pub const LOOKS: [Look; 14] = [
     Look::Wide,
     Look::Near,
     Look::Grey,
@@ -126,6 +135,7 @@ pub const LOOKS: [Look; 13] = [
     Look::Flat,
     Look::Black,
     Look::Lone,
+    Look::Few,
 ];
 
 pub fn page(random: &mut Random, look: Look, width: u64, height: u64) -> Page {
@@ -133,12 +143,18 @@ pub fn page(random: &mut Random, look: Look, width: u64, height: u64) -> Page {
     let base = random.between(72, 184);
     let odd = random.below(pixels);
     let flat = pixel(random, Look::Near, base);
+    let few = if look == Look::Few {
+        light::few(random, pixels)
+    } else {
+        Vec::new()
+    };
     let mut channels = Vec::with_capacity(3 * pixels as usize);
     for i in 0..pixels {
         let made = match look {
             Look::Spark => [lit(random, if i == odd { 184 } else { 72 }, 3); 3],
             Look::Speck => [lit(random, if i == odd { 72 } else { 184 }, 3); 3],
             Look::Lone if i != odd => [0; 3],
+            Look::Few if !few[i as usize] => [0; 3],
             Look::Flat => flat,
             _ => pixel(random, look, base),
         };
@@ -178,11 +194,12 @@ fn pixel(random: &mut Random, look: Look, base: u64) -> [u16; 3] {
         Look::Powers => powers::pixel(random),
         Look::Edges => [0; 3].map(|_| edge(random)),
         Look::Black => [0; 3],
+        Look::Few => lit_pixel(random),
         _ => [0; 3].map(|_| wide(random)),
     }
 }
 
-fn wide(random: &mut Random) -> u16 {
+pub(crate) fn wide(random: &mut Random) -> u16 {
     stored(random.between(72, 184), random.between(128, 255))
 }
 
@@ -203,6 +220,13 @@ fn far(random: &mut Random) -> [u16; 3] {
 fn alone(random: &mut Random) -> [u16; 3] {
     let mut pixel = [0; 3];
     pixel[random.below(3) as usize] = if random.one_in(4) { edge(random) } else { wide(random) };
+    pixel
+}
+
+/// One channel lit, or more.
+fn lit_pixel(random: &mut Random) -> [u16; 3] {
+    let mut pixel = [0; 3].map(|_| random.below(2) as u16 * wide(random));
+    pixel[random.below(3) as usize] = wide(random);
     pixel
 }
 

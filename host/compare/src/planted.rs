@@ -1,5 +1,9 @@
 //! Mistakes for a self-check to plant.
 
+use crate::calls::Calls;
+use crate::compare::Difference;
+use std::fmt::Debug;
+
 /// The enum of these mistakes with `Nothing` beside them, and the list of them.
 #[macro_export]
 macro_rules! planted {
@@ -12,4 +16,14 @@ macro_rules! planted {
 
         const PLANTED: &[Planted] = &[$($planted),*];
     };
+}
+
+/// Fails unless the comparison passes where nothing is planted and notices each mistake of the list. It tells how many.
+#[track_caller]
+pub fn each_noticed<T: Calls + Debug>(nothing: T, list: &[T], compared: impl Fn(&dyn Calls) -> Result<(), Difference>) -> usize {
+    compared(&nothing).unwrap();
+    for planted in list {
+        assert!(compared(planted).is_err(), "{planted:?} was not noticed");
+    }
+    list.len()
 }

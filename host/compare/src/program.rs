@@ -69,7 +69,7 @@ impl Default for Printed {
     fn default() -> Printed {
         assert!(path().exists(), "the picture program is not built: {} is missing", path().display());
         Printed {
-            second: SecondStep::new(Rules::BASE),
+            second: SecondStep::new(Rules::BUILT),
             inputs: 0,
             refused: 0,
         }

@@ -5,8 +5,10 @@ use crate::elements::{Elements, KINDS};
 use crate::pages::Page;
 use crate::program::{self, Printed};
 use crate::random::Random;
+use crate::strip_faults::Asked;
 use crate::{band_faults, bands, damage, pages, source_faults, strip_faults, values};
 use dofnihet::Header;
+use std::fmt::Debug;
 
 pub fn round(compare: &mut Compare, seed: u64) -> Result<(), Difference> {
     let random = &mut Random::new(seed);
@@ -50,13 +52,14 @@ fn page(compare: &mut Compare, random: &mut Random) -> Result<(), Difference> {
     Ok(())
 }
 
-/// A source of each kind, sound or with wild elements, and its strip.
+/// A source of each kind, sound, with few lit pixels or with wild elements, and its strip.
 fn source(compare: &mut Compare, random: &mut Random) -> Result<(), Difference> {
     for kind in KINDS {
         let (width, height) = pages::small_size(random);
-        let made = match random.one_in(3) {
-            true => values::wild(random, kind, width * height),
-            false => values::accepted(random, kind, width * height),
+        let made = match random.below(12) {
+            0..=3 => values::wild(random, kind, width * height),
+            4 => values::few(random, kind, width * height),
+            _ => values::accepted(random, kind, width * height),
         };
         let header = pages::header(width, height, pages::key(random));
         converted(compare, &made, header)?;
@@ -124,29 +127,31 @@ fn strip_fault(compare: &mut Compare, random: &mut Random) -> Result<(), Differe
 
 /// Every call on a strip with these faults, and what the list tells each.
 pub fn strip_fault_case(compare: &mut Compare, list: &[strip_faults::Fault]) -> Result<(), Difference> {
-    use strip_faults::{first, Asked, Case};
-    let Case { strip, y, room } = Case::sound().with(list);
+    let strip_faults::Case { strip, y, room } = strip_faults::Case::sound().with(list);
     let (header, tally) = (compare.header(&strip)?, compare.tally(&strip)?);
     let mut answers = vec![
         (Asked::Strip, compare.check(&strip)?),
         (Asked::Strip, (header.number, header.place)),
-        (Asked::Strip, (tally.number, tally.place)),
+        (Asked::Tally, (tally.number, tally.place)),
         (Asked::Row, compare.row(&strip, y)?),
-        (Asked::Output, compare.unpack(&strip, room)?),
-        (Asked::Output, compare.map(&strip, room)?.0),
+        (Asked::Unpack, compare.unpack(&strip, room)?),
+        (Asked::Map, compare.map(&strip, room)?.0),
     ];
     for n in step_numbers(&strip) {
         let step = compare.step(&strip, n)?;
         answers.push((Asked::Strip, (step.number, step.place)));
     }
-    for (asked, told) in answers {
-        if told != first(list, asked) {
-            return Err(Difference(format!(
-                "the list does not tell {told:?} for {list:?}, asked for {asked:?}"
-            )));
-        }
+    told_first(&answers, list, strip_faults::first)
+}
+
+/// Whether each call told what is first among these faults.
+fn told_first<T: Debug>(answers: &[(Asked, Told)], list: &[T], first: impl Fn(&[T], Asked) -> Told) -> Result<(), Difference> {
+    match answers.iter().find(|(asked, told)| *told != first(list, *asked)) {
+        None => Ok(()),
+        Some((asked, told)) => Err(Difference(format!(
+            "the papers do not tell {told:?} for {list:?}, asked for {asked:?}"
+        ))),
     }
-    Ok(())
 }
 
 /// A page cut into bands, whole and damaged, and bands of several pages.
@@ -181,18 +186,11 @@ pub fn band_fault_case(compare: &mut Compare, list: &[band_faults::Fault]) -> Re
     let (header, tally) = (compare.header_of_bands(&row)?, compare.tally_of_bands(&row)?);
     let (mapped, _) = compare.map_bands(&row, case.room())?;
     let answers = [
-        (false, (header.number, header.place)),
-        (false, (tally.number, tally.place)),
-        (true, mapped),
+        (Asked::Strip, (header.number, header.place)),
+        (Asked::Tally, (tally.number, tally.place)),
+        (Asked::Map, mapped),
     ];
-    for (output, told) in answers {
-        if told != band_faults::first(list, output) {
-            return Err(Difference(format!(
-                "the request does not tell {told:?} for {list:?}, output {output}"
-            )));
-        }
-    }
-    Ok(())
+    told_first(&answers, list, band_faults::first)
 }
 
 /// One to three of the list, in its order.

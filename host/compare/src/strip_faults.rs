@@ -1,6 +1,8 @@
 //! Faults of a strip, of the row asked for and of the output, one or several at once, and which of them the list puts first.
 
 use crate::compare::{Told, ACCEPTED};
+use crate::damage;
+use crate::light::DARK;
 use crate::pages::Page;
 
 #[derive(Clone, Copy, Debug, PartialEq, Eq)]
@@ -24,6 +26,8 @@ pub enum Fault {
     Length(i64),
     /// Only so many words, one or none.
     Short(usize),
+    /// No pixel lit.
+    Dark,
 }
 
 /// The calls that differ in what they check.
@@ -31,7 +35,9 @@ pub enum Fault {
 pub enum Asked {
     Strip,
     Row,
-    Output,
+    Unpack,
+    Tally,
+    Map,
 }
 
 /// A 2 x 2 page, its last row, and an exact output, before any fault.
@@ -81,13 +87,15 @@ impl Case {
                 strip.resize((strip.len() as i64 + more) as usize, last);
             }
             Fault::Short(count) => strip.truncate(count),
+            Fault::Dark => damage::blacken(strip),
         }
     }
 }
 
-/// Every fault on its own. Those that cut or lengthen the strip come last.
+/// Every fault on its own. The one that blackens the words comes first, those that cut or lengthen the strip last.
 pub fn faults() -> Vec<Fault> {
-    let mut list: Vec<Fault> = [0, 2, 3, 4, 7, 9, 15].map(Fault::FirstKind).to_vec();
+    let mut list = vec![Fault::Dark];
+    list.extend([0, 2, 3, 4, 7, 9, 15].map(Fault::FirstKind));
     let sizes = [
         (0, 2),
         (2, 0),
@@ -132,7 +140,8 @@ pub fn order(fault: Fault) -> usize {
         Fault::Room(_) => 7,
         Fault::Foreign(place, _) => 8 + 2 * place,
         Fault::Wild(place, _) => 9 + 2 * place,
-        Fault::End(_) => usize::MAX,
+        Fault::End(_) => usize::MAX - 1,
+        Fault::Dark => usize::MAX,
     }
 }
 
@@ -149,6 +158,7 @@ pub fn answer(fault: Fault) -> Told {
         Fault::Foreign(place, _) => (7, place as u64),
         Fault::Wild(place, _) => (8, place as u64),
         Fault::End(_) => (7, 14),
+        Fault::Dark => DARK,
     }
 }
 
@@ -156,7 +166,8 @@ pub fn answer(fault: Fault) -> Told {
 fn seen(fault: Fault, asked: Asked) -> bool {
     match fault {
         Fault::Row(_) => asked == Asked::Row,
-        Fault::Room(_) => asked == Asked::Output,
+        Fault::Room(_) => matches!(asked, Asked::Unpack | Asked::Map),
+        Fault::Dark => matches!(asked, Asked::Tally | Asked::Map),
         _ => true,
     }
 }

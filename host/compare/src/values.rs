@@ -2,6 +2,7 @@
 //! written here once more, by the list and in floating point, which is exact for them.
 
 use crate::elements::{Elements, Kind};
+use crate::light;
 use crate::pages::is_channel;
 use crate::random::Random;
 
@@ -116,6 +117,16 @@ pub fn accepted(random: &mut Random, kind: Kind, pixels: u64) -> Elements {
         Kind::Single => Elements::Single((0..count).map(|_| single(random)).collect()),
         Kind::Stored => Elements::Stored((0..count).map(|_| stored(random)).collect()),
     }
+}
+
+/// A source of so many pixels that is accepted, most of them black: about as few are left as are enough.
+pub fn few(random: &mut Random, kind: Kind, pixels: u64) -> Elements {
+    let mut elements = accepted(random, kind, pixels);
+    let left = light::few(random, pixels);
+    for place in (0..elements.count()).filter(|place| !left[place / kind.of_pixel()]) {
+        elements.set(place, 0);
+    }
+    elements
 }
 
 /// A source of so many pixels made of any bits, near the limits more often than not.

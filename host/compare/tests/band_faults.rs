@@ -1,13 +1,15 @@
 //! Rows of bands that are refused: each fault and each pair of faults, cut and lengthened rows, damaged words, and sizes around the limits.
 
-use compare::band_faults::{alone_and_in_pairs, faults};
+use compare::band_faults::{alone_and_in_pairs, faults, Fault};
+use compare::light::{Light, DARK};
 use compare::pages::{self, Look};
 use compare::rounds::band_fault_case;
 use compare::{bands, damage, same, Compare, Library, Random};
 
 const SEED: u64 = 1501;
 
-/// Each fault in each of three bands, and each pair in one band and in two, for every call.
+/// Each fault in each of three bands, and each pair in one band and in two, for every call; on dark bands too, unless the row is too high
+/// already.
 #[test]
 fn one_and_two_faults() {
     let mut compare = Compare::new(&Library);
@@ -15,8 +17,18 @@ fn one_and_two_faults() {
     for faults in &cases {
         band_fault_case(&mut compare, faults).unwrap();
     }
+    let darkened = |fault: &Fault| !matches!(fault, Fault::Black(..) | Fault::Above(_));
+    let dark: Vec<&Vec<Fault>> = cases.iter().filter(|faults| faults.iter().all(darkened)).collect();
+    for faults in &dark {
+        band_fault_case(&mut compare, &[&[Fault::Black(0, 3)], &faults[..]].concat()).unwrap();
+    }
     band_fault_case(&mut compare, &[]).unwrap();
-    println!("faults of bands: {} cases, {}", cases.len(), compare.counts);
+    println!(
+        "faults of bands: {} cases, {} on dark bands too, {}",
+        cases.len(),
+        dark.len(),
+        compare.counts
+    );
 }
 
 /// Rows of bands cut at every length: only an end between two bands leaves a row.
@@ -27,11 +39,12 @@ fn cut_rows() {
     for (width, heights) in [(1, vec![1, 1, 1]), (2, vec![1, 3, 2]), (3, vec![2, 1]), (1, vec![5, 1, 1, 4])] {
         let page = pages::page(random, Look::Mixed, width, heights.iter().sum());
         let row = bands::row(&page, &heights);
-        let end = |count: usize| (3 * width as usize) * heights[..count].iter().sum::<u64>() as usize + 3 * count;
-        let ends: Vec<usize> = (1..=heights.len()).map(end).collect();
+        let channels = |bands: usize| (3 * width * heights[..bands].iter().sum::<u64>()) as usize;
+        let ended = |count: usize| (1..=heights.len()).find(|&bands| channels(bands) + 3 * bands == count);
         for count in 0..=row.len() {
             let told = same(seed, compare.bands(&row[..count]));
-            assert_eq!(told, if ends.contains(&count) { (0, 0) } else { (3, 0) }, "{count} words");
+            let expected = ended(count).map_or((3, 0), |bands| Light::of(&page.channels[..channels(bands)]).told());
+            assert_eq!(told, expected, "{count} words");
         }
     }
     println!("cut rows of bands, seed {seed}: {}", compare.counts);
@@ -116,7 +129,8 @@ fn heights_at_limit() {
     let mut compare = Compare::new(&Library);
     for width in [1, 3] {
         for heights in [vec![8192], vec![8191, 1], vec![1, 8191], vec![4096, 4096], vec![1, 8190, 1]] {
-            assert_eq!(compare.bands(&bands::black(width, &heights)).unwrap(), (0, 0), "{heights:?}");
+            assert_eq!(compare.bands(&bands::flat(width, &heights, 0x80FF)).unwrap(), (0, 0), "{heights:?}");
+            assert_eq!(compare.bands(&bands::black(width, &heights)).unwrap(), DARK, "{heights:?}");
         }
         for heights in [vec![8192, 1], vec![1, 8192], vec![4096, 4097], vec![8191, 1, 1], vec![8192, 8192]] {
             assert_eq!(compare.bands(&bands::black(width, &heights)).unwrap(), (21, 0), "{heights:?}");

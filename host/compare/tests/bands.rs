@@ -1,5 +1,6 @@
 //! Bands: pages of every look in every cutting, and the tall page beside each.
 
+use compare::light::Light;
 use compare::pages::{self, stored, Look, Page, LOOKS};
 use compare::{bands, same, Compare, Library, Random};
 
@@ -52,6 +53,7 @@ fn single_rows() {
     for (look, width, height) in [
         (Look::Wide, 1, 8192),
         (Look::Lone, 1, 8192),
+        (Look::Few, 1, 8192),
         (Look::Mixed, 2, 8192),
         (Look::Near, 2048, 64),
         (Look::Far, 8192, 5),
@@ -95,7 +97,7 @@ fn extremes() {
     println!("extremes of bands: {}", compare.counts);
 }
 
-/// Strips of two widths and two keys, one behind another: 21 unless all are like the first.
+/// Strips of two widths and two keys, one behind another: 21 unless all are like the first, then as all their pixels tell.
 #[test]
 fn like_and_unlike() {
     let seed = SEED + 3;
@@ -104,7 +106,9 @@ fn like_and_unlike() {
         let list = bands::several(random);
         let like = list.iter().all(|page| (page.width, page.key) == (list[0].width, list[0].key));
         let row: Vec<u32> = list.iter().flat_map(Page::strip).collect();
-        assert_eq!(same(seed, compare.bands(&row)), if like { (0, 0) } else { (21, 0) });
+        let channels: Vec<u16> = list.iter().flat_map(|page| page.channels.clone()).collect();
+        let told = if like { Light::of(&channels).told() } else { (21, 0) };
+        assert_eq!(same(seed, compare.bands(&row)), told);
     }
     println!("like and unlike bands, seed {seed}: {}", compare.counts);
 }

@@ -27,6 +27,7 @@ fn header(told: raw::Header) -> Result<Header, Refusal> {
     refusal(told.number, told.place).map(|_| Header { width, height, key })
 }
 
+/// An accepted tally has an average and extremes.
 fn tally(told: raw::Tally) -> Result<Tally, Refusal> {
     let average = Average {
         steps: told.average,
@@ -40,8 +41,8 @@ fn tally(told: raw::Tally) -> Result<Tally, Refusal> {
     let expected = Tally {
         lit: told.lit,
         sum: told.sum,
-        average: if told.present == 1 { Some(average) } else { None },
-        extremes: if told.present == 1 { Some(extremes) } else { None },
+        average: Some(average),
+        extremes: Some(extremes),
     };
     refusal(told.number, told.place).map(|_| expected)
 }

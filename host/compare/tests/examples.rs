@@ -1,11 +1,12 @@
 //! The worked examples of document 01 through the C interface, as strips and in bands. Every expected value is the paper's, or follows from its rules where a
 //! comment says how.
 
-use compare::compare::raw_step;
+use compare::compare::{raw_step, raw_tally};
 use compare::pages::{header, stored, Page};
 use compare::{program, Calls, Elements, Library};
-use dofnihet::raw::Tally;
+use dofnihet::raw::{Outcome, Tally};
 use second::whole::Whole;
+use second::Refusal;
 
 /// The strip of a source of one row, or the refusal.
 fn strip(elements: &Elements, key: u64) -> Result<Vec<u32>, (u64, u64)> {
@@ -151,7 +152,7 @@ fn bands() {
 }
 
 /// The least luminance is that of blue (72,128) alone: 6/100 · 128.5 · 2^-64 is 246.72 · 2^-69. The greatest is that of a grey (184,255).
-/// Of greys the greater mantissa may be the darker: (127,255) is below (129,128). Without light both are absent, and 0.
+/// Of greys the greater mantissa may be the darker: (127,255) is below (129,128).
 #[test]
 fn darkest_and_brightest() {
     let of = |pixels: &[[u16; 3]]| extremes(&Page::row(180, pixels).strip());
@@ -161,8 +162,35 @@ fn darkest_and_brightest() {
         of(&[[stored(129, 128); 3], [0; 3], [stored(127, 255); 3]]),
         [(127, 255), (129, 128)]
     );
-    assert_eq!(of(&[[0; 3]]), [(0, 0); 2]);
-    println!("examples of darkest and brightest: 3");
+    println!("examples of darkest and brightest: 2");
+}
+
+/// What tally and map tell of a strip, the levels in memory that was all 7.
+fn told(strip: &[u32]) -> (Tally, Outcome, Vec<u8>) {
+    let mut levels = vec![7; strip.len() - 3];
+    let outcome = Library.map(strip, &mut levels);
+    (Library.tally(strip), outcome, levels)
+}
+
+/// Request 2026-03. The grey of the one-pixel example and fifteen black pixels: sixteen times one is sixteen, and average and level are its
+/// own. One more black pixel, or no lit one, and the page is dark: number 9, place 0, the other fields 0, the memory as it was.
+#[test]
+fn dark_pages() {
+    let mut halves = vec![0; 16];
+    halves[9] = 0x3C00;
+    let (tally, outcome, levels) = told(&greys(&halves));
+    assert_eq!((tally.number, outcome.number, tally.lit, tally.average), (0, 0, 1, -1));
+    assert_eq!(both(tally), [(128, 255); 2]);
+    let level = |pixel| if pixel == 9 { 39 } else { 0 };
+    assert_eq!(levels, (0..48).map(|i| level(i / 3)).collect::<Vec<u8>>());
+    halves.push(0);
+    for dark in [greys(&halves), greys(&[0])] {
+        let (tally, outcome, levels) = told(&dark);
+        assert_eq!(tally, raw_tally(&Err(Refusal { number: 9, place: 0 })));
+        assert_eq!(outcome, Outcome { number: 9, place: 0 });
+        assert_eq!(levels, vec![7; dark.len() - 3]);
+    }
+    println!("examples of dark pages: 3");
 }
 
 /// The picture program's page, whose words hold 80FF and 7FFF, pixel by pixel and beyond.

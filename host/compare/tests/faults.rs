@@ -2,6 +2,7 @@
 
 use compare::elements::KINDS;
 use compare::rounds::strip_fault_case;
+use compare::strip_faults::Fault;
 use compare::{pages, same, source_faults, strip_faults, Compare, Library, Random};
 
 /// Sources: each fault and each pair, for each kind.
@@ -26,7 +27,7 @@ fn sources() {
     println!("faults of sources: {cases} cases, {}", compare.counts);
 }
 
-/// Strips: each fault and each pair, for every call.
+/// Strips: each fault and each pair, for every call, and each of these on a dark page too.
 #[test]
 fn strips() {
     let mut compare = Compare::new(&Library);
@@ -37,6 +38,10 @@ fn strips() {
         let faults = if i == j { vec![list[i]] } else { vec![list[i], list[j]] };
         strip_fault_case(&mut compare, &faults).unwrap();
         cases += 1;
+        if faults[0] != Fault::Dark {
+            strip_fault_case(&mut compare, &[&[Fault::Dark], &faults[..]].concat()).unwrap();
+            cases += 1;
+        }
     }
     strip_fault_case(&mut compare, &[]).unwrap();
     println!("faults of strips: {cases} cases, {}", compare.counts);

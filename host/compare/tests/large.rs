@@ -1,11 +1,13 @@
 //! One page of 16,777,216 pixels: converted, unpacked, tallied, mapped and read at its end on both sides, and the second half of demand 3
-//! on all of it; tallied and mapped in bands too. Pages of 1,048,576 pixels from the other sources.
+//! on all of it; tallied and mapped in bands too. The largest dark pages and their neighbours. Pages of 1,048,576 pixels from the other
+//! sources.
 
 use compare::compare::{raw_header, raw_step, raw_tally};
 use compare::lent::Lent;
+use compare::light::{self, Light, DARK};
 use compare::pages::{self, Look, Page};
 use compare::rounds::converted;
-use compare::{bands, same, values, Calls, Compare, Kind, Library, Random};
+use compare::{bands, damage, same, values, Calls, Compare, Kind, Library, Random, Told};
 use dofnihet::raw::{Header, Outcome, Step, Tally};
 use dofnihet::Source;
 use second::{LevelDistances, Rules, SecondStep};
@@ -134,7 +136,7 @@ fn by_both(step: &SecondStep, page: &Page, strip: &[u32], row: &[u32]) -> (ByLib
 
 #[test]
 fn a_page_of_all_pixels() {
-    let (page, step) = (large(), SecondStep::new(Rules::BASE));
+    let (page, step) = (large(), SecondStep::new(Rules::BUILT));
     let (strip, row, kept) = (page.strip(), in_bands(&page), page.clone());
     let (library, second, of_bands) = by_both(&step, &page, &strip, &row);
     assert_eq!(library.outcomes, [ACCEPTED; 4]);
@@ -164,6 +166,56 @@ fn a_page_of_all_pixels() {
     let Tally { lit, average, .. } = tally;
     let pixels = WIDTH * HEIGHT;
     println!("large page, seed {SEED}: {pixels} pixels, {lit} lit, average {average}, {compared} levels within {worst:.4}");
+}
+
+/// A page with the paper's grey 1.0 in so many pixels at its front, the others black.
+fn grey_front((width, height): (u64, u64), lit: u64) -> Page {
+    let mut channels = vec![0; 3 * (width * height) as usize];
+    channels[..3 * lit as usize].fill(0x80FF);
+    Page::new(pages::header(width, height, 180), channels)
+}
+
+/// Tally and map of such a page: refused as dark and the output as it was, or the paper's average -1 and level 39.
+fn told_light(page: &Page, expected: Told, tally: Tally, map: impl Fn(&mut [u8]) -> Outcome) {
+    let mut output = Lent::new(page.channels.len(), 5);
+    let outcome = map(output.output());
+    assert_eq!([(tally.number, tally.place), (outcome.number, outcome.place)], [expected; 2]);
+    if expected == DARK {
+        return output.holds(&[]).unwrap();
+    }
+    let levels: Vec<u8> = page.channels.iter().map(|&channel| if channel > 0 { 39 } else { 0 }).collect();
+    assert_eq!((tally.lit, tally.average), (Light::of(&page.channels).lit, -1));
+    output.holds(&levels).unwrap();
+}
+
+/// The largest pages with a pixel more and a pixel fewer than sixteen times the lit ones, taken by check, unlike by tally and map.
+#[test]
+fn dark_pages() {
+    for shape in [(2823, 5943), (4095, 4097)] {
+        let (lit, expected) = light::edge(shape);
+        let page = grey_front(shape, lit);
+        let strip = page.strip();
+        assert_eq!(Library.check(&strip), ACCEPTED);
+        told_light(&page, expected, Library.tally(&strip), |output| Library.map(&strip, output));
+        println!("large page at the edge: {lit} lit, told {expected:?}");
+    }
+}
+
+/// The page of all pixels with just enough light, all of it in the first bands, and the same without its first pixel.
+#[test]
+fn dark_bands() {
+    let page = grey_front((WIDTH, HEIGHT), WIDTH * HEIGHT / 16);
+    let (mut strip, mut row) = (page.strip(), in_bands(&page));
+    for expected in [(0, 0), DARK] {
+        assert_eq!((Library.check(&strip), Library.header_of_bands(&row).number), (ACCEPTED, 0));
+        told_light(&page, expected, Library.tally(&strip), |output| Library.map(&strip, output));
+        told_light(&page, expected, Library.tally_of_bands(&row), |output| {
+            Library.map_bands(&row, output)
+        });
+        damage::blacken(&mut strip[2..5]);
+        damage::blacken(&mut row[2..5]);
+    }
+    println!("large page in bands at the edge: with its first pixel and without");
 }
 
 /// A page of 2^20 pixels and its strip through every call.

@@ -1,31 +1,63 @@
 //! The picture program's standard output, byte for byte.
 
-use compare::pages::{self, Look, LOOKS};
+use compare::light::{self, DARK};
+use compare::pages::{self, Look, Page, LOOKS};
 use compare::program::{self, Printed};
-use compare::{damage, same, strip_faults, Random};
+use compare::{damage, same, strip_faults, Random, Told};
 use std::fs::File;
 use std::time::Duration;
 
 const SEED: u64 = 801;
 
-/// Accepted pages of each look, small ones and the greatest that fit.
+/// How the picture of a page begins that is told this.
+fn front(page: &Page, told: Told) -> String {
+    match told {
+        DARK => "refused 9 0\n".to_string(),
+        _ => format!("P6\n{} {}\n255\n", page.width, page.height),
+    }
+}
+
+/// Sound pages of each look, small ones and the greatest that fit; the dark ones are refused.
 #[test]
-fn accepted() {
+fn sound() {
     let seed = SEED;
     let (random, mut printed) = (&mut Random::new(seed), Printed::default());
     for (look, _) in LOOKS.iter().flat_map(|look| (0..8).map(move |i| (*look, i))) {
         let (width, height) = pages::small_size(random);
-        let picture = same(
-            seed,
-            printed.same(&program::bytes(&pages::page(random, look, width, height).strip())),
-        );
-        assert!(picture.starts_with(format!("P6\n{width} {height}\n255\n").as_bytes()));
+        let page = pages::page(random, look, width, height);
+        let picture = same(seed, printed.same(&program::bytes(&page.strip())));
+        assert!(picture.starts_with(front(&page, page.told()).as_bytes()));
     }
     for (width, height) in [(5460, 1), (1, 5460), (84, 65), (70, 78), (2730, 2)] {
         let strip = pages::page(random, Look::Wide, width, height).strip();
         assert!(same(seed, printed.same(&program::bytes(&strip))).starts_with(b"P6\n"));
     }
-    println!("pictures accepted, seed {seed}: {} inputs", printed.inputs);
+    println!(
+        "pictures of sound pages, seed {seed}: {} inputs, {} refused",
+        printed.inputs, printed.refused
+    );
+}
+
+/// Pages at the edge of darkness, as large as fit.
+#[test]
+fn dark() {
+    let seed = SEED + 4;
+    let (random, mut printed) = (&mut Random::new(seed), Printed::default());
+    let fits = |shape: &&(u64, u64)| shape.0 * shape.1 <= 5460;
+    for (shape, lie) in light::EDGES
+        .iter()
+        .filter(fits)
+        .flat_map(|shape| light::WHERE.map(|lie| (*shape, lie)))
+    {
+        let colour = random.pick(&light::COLOURS);
+        let (page, told) = light::page_at_edge(random, shape, lie, colour);
+        let picture = same(seed, printed.same(&program::bytes(&page.strip())));
+        assert!(picture.starts_with(front(&page, told).as_bytes()), "{shape:?}");
+    }
+    println!(
+        "pictures at the edge, seed {seed}: {} inputs, {} refused",
+        printed.inputs, printed.refused
+    );
 }
 
 /// Damaged strips, and each fault of a strip.
@@ -35,7 +67,7 @@ fn refused() {
     let (random, mut printed) = (&mut Random::new(seed), Printed::default());
     for fault in strip_faults::faults() {
         let case = strip_faults::Case::sound().with(&[fault]);
-        let (number, place) = strip_faults::first(&[fault], strip_faults::Asked::Strip);
+        let (number, place) = strip_faults::first(&[fault], strip_faults::Asked::Tally);
         let answer = same(seed, printed.same(&program::bytes(&case.strip)));
         if number > 0 {
             assert_eq!(answer, format!("refused {number} {place}\n").as_bytes());

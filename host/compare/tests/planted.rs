@@ -1,7 +1,7 @@
 //! Each comparison can fail: differences are planted in the library's answers, and every one must be noticed.
 
 use compare::pages::Page;
-use compare::{planted, program, Calls, Compare, Elements, Library};
+use compare::{planted, program, Calls, Compare, Difference, Elements, Library};
 use dofnihet::raw::{Header as RawHeader, Outcome, Row, Step, Tally};
 use dofnihet::{Header, Source};
 
@@ -18,7 +18,7 @@ planted! {
     Lit Sum Present Average Exponent Mantissa TallyOfRefused
     DarkestExponent DarkestMantissa BrightestExponent BrightestMantissa ExtremesExchanged
     DarkestExponentOfRefused DarkestMantissaOfRefused BrightestExponentOfRefused BrightestMantissaOfRefused
-    DarkestExponentOfBlack DarkestMantissaOfBlack BrightestExponentOfBlack BrightestMantissaOfBlack
+    DarkestExponentOfDark DarkestMantissaOfDark BrightestExponentOfDark BrightestMantissaOfDark
 }
 
 use Planted::*;
@@ -43,8 +43,7 @@ impl Planted {
     }
 
     fn extremes(self, told: Tally) -> Tally {
-        let (lit, refused) = (told.lit > 0, told.number > 0);
-        let black = !lit && !refused;
+        let (lit, refused, dark) = (told.lit > 0, told.number > 0, told.number == 9);
         let mut planted = told;
         match self {
             DarkestExponent if lit => planted.darkest_exponent += 1,
@@ -59,10 +58,10 @@ impl Planted {
             DarkestMantissaOfRefused if refused => planted.darkest_mantissa = 255,
             BrightestExponentOfRefused if refused => planted.brightest_exponent = 72,
             BrightestMantissaOfRefused if refused => planted.brightest_mantissa = 255,
-            DarkestExponentOfBlack if black => planted.darkest_exponent = 72,
-            DarkestMantissaOfBlack if black => planted.darkest_mantissa = 255,
-            BrightestExponentOfBlack if black => planted.brightest_exponent = 72,
-            BrightestMantissaOfBlack if black => planted.brightest_mantissa = 255,
+            DarkestExponentOfDark if dark => planted.darkest_exponent = 72,
+            DarkestMantissaOfDark if dark => planted.darkest_mantissa = 255,
+            BrightestExponentOfDark if dark => planted.brightest_exponent = 72,
+            BrightestMantissaOfDark if dark => planted.brightest_mantissa = 255,
             _ => (),
         }
         planted
@@ -176,31 +175,24 @@ fn page() -> Page {
 }
 
 /// The sound page, the page with its last blue word wild and a black page, through every comparison.
-fn noticed(calls: &dyn Calls) -> bool {
+fn compared(calls: &dyn Calls) -> Result<(), Difference> {
     let mut compare = Compare::new(calls);
     let (sound, mut wild, black) = (page(), page(), Page::row(180, &[[0; 3]; 2]));
     wild.channels[5] = 1;
-    let converted = |compare: &mut Compare, page: &Page| {
+    for page in [&sound, &wild] {
         let elements = Elements::Stored(page.channels.clone());
-        compare.convert_into(elements.source(), page.header(), 11).map(|_| ())
-    };
-    let seen = [
-        converted(&mut compare, &sound),
-        converted(&mut compare, &wild),
-        compare.strip(&sound.strip()).map(|_| ()),
-        compare.strip(&wild.strip()).map(|_| ()),
-        compare.strip(&black.strip()).map(|_| ()),
-    ];
-    seen.iter().any(|answer| answer.is_err())
+        compare.convert_into(elements.source(), page.header(), 11)?;
+    }
+    for page in [&sound, &wild, &black] {
+        compare.strip(&page.strip())?;
+    }
+    Ok(())
 }
 
 #[test]
 fn planted_differences() {
-    assert!(!noticed(&Nothing));
-    for planted in PLANTED {
-        assert!(noticed(planted), "{planted:?} was not noticed");
-    }
-    println!("planted differences: {} noticed", PLANTED.len());
+    let count = planted::each_noticed(Nothing, PLANTED, compared);
+    println!("planted differences: {count} noticed");
 }
 
 /// An average off by two, or by more, is no mean of the page; the paper's -129 is.

@@ -190,6 +190,7 @@ impl Calls for Planted {
         match fault {
             Some(fault) => return fault,
             None if bands.is_empty() => return outcome(0, 0),
+            None if Library.tally(&tall(&bands)).number == 9 => return outcome(9, 0),
             None if output.len() < self.needed(row, &bands) => return outcome(4, 0),
             None => (),
         }
@@ -236,9 +237,6 @@ fn compared(calls: &dyn Calls) -> Result<(), Difference> {
 
 #[test]
 fn planted_mistakes() {
-    compared(&Nothing).unwrap();
-    for planted in PLANTED {
-        assert!(compared(planted).is_err(), "{planted:?} was not noticed");
-    }
-    println!("planted mistakes with bands: {} noticed", PLANTED.len());
+    let count = planted::each_noticed(Nothing, PLANTED, compared);
+    println!("planted mistakes with bands: {count} noticed");
 }

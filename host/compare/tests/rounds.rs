@@ -1,5 +1,6 @@
-//! The soak's rounds on fixed seeds.
+//! The soak's rounds on fixed seeds. Of their sound pages some are dark, some at the edge, and most are accepted.
 
+use compare::counts::Counts;
 use compare::{rounds, same, Compare, Library};
 
 const SEED: u64 = 1_000_000;
@@ -9,6 +10,8 @@ fn run(first: u64, count: u64) {
     for seed in first..first + count {
         same(seed, rounds::round(&mut compare, seed));
     }
+    let Counts { pages, dark, edge, .. } = compare.counts;
+    assert!((pages / 50..pages / 10).contains(&dark) && edge > dark);
     println!("rounds, seeds {first} to {}: {}", first + count - 1, compare.counts);
 }
 

@@ -38,7 +38,8 @@ fn words() {
         };
         page.channels[place as usize] = value;
         let told = same(seed, compare.strip(&page.strip()));
-        assert_eq!(told, if pages::is_channel(value) { (0, 0) } else { (8, place + 2) }, "{value:04X}");
+        let expected = if pages::is_channel(value) { page.told() } else { (8, place + 2) };
+        assert_eq!(told, expected, "{value:04X}");
     }
     println!("stored in words, seed {seed}: 65536 numbers, {}", compare.counts);
 }

@@ -18,7 +18,7 @@ fn looks_and_shapes() {
             compare.convert(Elements::Stored(page.channels.clone()).source(), page.header()),
         );
         assert_eq!(made, ((0, 0), page.strip()));
-        same(seed, compare.strip(&made.1));
+        assert_eq!(same(seed, compare.strip(&made.1)), page.told());
     }
     println!("strips of all looks and shapes, seed {seed}: {}", compare.counts);
 }
@@ -31,7 +31,7 @@ fn small_pages() {
     for (look, _) in LOOKS.iter().flat_map(|look| (0..120).map(move |i| (*look, i))) {
         let (width, height) = pages::small_size(random);
         let page = pages::page(random, look, width, height);
-        assert_eq!(same(seed, compare.strip(&page.strip())), (0, 0));
+        assert_eq!(same(seed, compare.strip(&page.strip())), page.told());
     }
     println!("small strips, seed {seed}: {}", compare.counts);
 }
