@@ -13,13 +13,13 @@ use Rattle.light.specs.Light.{checkLight}
 use Rattle.light.specs.loops.Counting.{enoughFor}
 
 module _ (lit pixels : ℕ) where
-  pub dark : 16 * lit < pixels → Refused DarkPage 0 ≡ checkLight lit pixels
+  pub dark : lit < enoughFor pixels → Refused DarkPage 0 ≡ checkLight lit pixels
   unfolding checkLight require
-  dark h = rw (lt-leb _ _ h)
+  dark h = rw (lt-leb pixels (16 * lit) (omega arith))
 
-  pub light : pixels ≤ 16 * lit → Accepted ≡ checkLight lit pixels
+  pub light : enoughFor pixels ≤ lit → Accepted ≡ checkLight lit pixels
   unfolding checkLight require
-  light h = rw (le-leb _ _ h)
+  light h = rw (le-leb pixels (16 * lit) (omega arith))
 
   -- an accepted page has a lit pixel
   pub light-lit : 0 < pixels → checkLight lit pixels ≡ Accepted → 0 < lit

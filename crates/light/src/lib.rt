@@ -1,7 +1,7 @@
 // Whether enough of a page's pixels are lit.
 ghost use mathlib.Core.Path.{_≡_};
 ghost use mathlib.Core.List.{[], _∷_};
-ghost use Prim.Native.Nat.{_^_, _≤_, min};
+ghost use Prim.Native.Nat.{min};
 ghost use Rattle.number.specs.Channels.{IsCode};
 ghost use Rattle.word.specs.Fields.{low16};
 ghost use Rattle.word.specs.Pixels.{pixelOf, wordChannel, wordPixels};
@@ -13,24 +13,22 @@ use refusal::Refusal;
 use refusal::Verdict;
 use word::header::low_half;
 
+// The least number of lit pixels that is enough for a page.
+pub fn enough_for(pixels: u64) -> u64
+    ensures { λ r. ⌜ r ≡ enoughFor pixels ⌝ }
+{
+    pixels / 16 + (pixels % 16 + 15) / 16
+}
+
 // A page of so many pixels, of which so many are lit.
 pub fn check_light(lit: u64, pixels: u64) -> Verdict
-    requires { ⌜ lit ≤ 2 ^ 40 ⌝ }
     ensures { λ r. ⌜ r ≡ checkLight lit pixels ⌝ }
 {
-    if 16 * lit < pixels {
+    if lit < enough_for(pixels) {
         Verdict::Refused(Refusal::DarkPage, 0)
     } else {
         Verdict::Accepted
     }
-}
-
-// The least number of lit pixels that is enough for a page.
-pub fn enough_for(pixels: u64) -> u64
-    requires { ⌜ pixels ≤ 2 ^ 40 ⌝ }
-    ensures { λ r. ⌜ r ≡ enoughFor pixels ⌝ }
-{
-    (pixels + 15) / 16
 }
 
 // 1 where the pixel of three channel words is lit, else 0: the code of a black channel is 0.

@@ -1,20 +1,15 @@
 -- `bands::check::check_in_light` meets its contract. Assumes nothing.
 use borrow.Author.Needs.{needs}
-use Prim.Native.Nat.{_≤_}
 use mathlib.Core.Path.{_≡_, sym, _∙_}
-use native.Mathlib.Omega.{arith}
 use denote.Ref.{now}
 use Rattle.refusal.specs.declared.Verdict.the-variants.{Accepted}
 use Rattle.bands.specs.Checks.{checkBands}
-use Rattle.bands.proofs.Checking.{few-joined, bands-refused, light-counted}
+use Rattle.bands.proofs.Checking.{bands-refused, light-counted}
 use Rattle.bands.proofs.check.check_in_light.Statement.{statement}
 use Rattle.bands.proofs.check.check_in_light.Tie as tie
 
 ok : (c : tie.After-enum-told) → checkBands (now (c .before .before .before .before .args .row)) ≡ Accepted
 ok c = sym (c .before .before .check .ensures) ∙ c .enum-told .given .1
-
-few : (c : tie.After-tall-pixels) → c .tall-pixels .result ≤ 16777216
-few c = rw (c .tall-pixels .ensures) (few-joined _ (ok (c .before)))
 
 returns-2 : tie.Need-returns-2
 returns-2 c =
@@ -28,5 +23,5 @@ check-in-light-spec =
     tie.close
     (tie.spec
     (λ c κs. search needs) (λ c. search needs) (λ c. search needs)
-    (λ c. bands-refused _ (c .before .before .check .ensures) (c .enum-told2 .given .1)) (λ c κs. ok c) (λ c κs. omega (arith, few c))
-    (λ c κs. ok (c .before .before)) (λ c κs. omega (arith, few (c .before .before), c .lit-in-bands .ensures, c .before .enough-for .ensures)) returns-2)
+    (λ c. bands-refused _ (c .before .before .check .ensures) (c .enum-told2 .given .1)) (λ c κs. ok c) (λ c κs. search needs)
+    (λ c κs. ok (c .before .before)) (λ c κs. search needs) returns-2)

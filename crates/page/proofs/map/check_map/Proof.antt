@@ -1,14 +1,10 @@
 -- `page::map::check_map` meets its contract. Assumes nothing.
 use borrow.Author.Needs.{needs}
 use mathlib.Core.Path.{_≡_, sym, _∙_}
-use Prim.Native.Nat.{_/_, _^_, _≤_}
-use native.Mathlib.Omega.{arith}
-use lib.ListN.{length}
 use denote.Ref.{now}
 use Rattle.refusal.specs.declared.Verdict.the-variants.{Accepted}
 use Rattle.strip.specs.Checks.{checkOutput}
 use Rattle.strip.proofs.Limits.{Fits, output-limits}
-use Rattle.body.specs.loops.Indices.{IsBody}
 use Rattle.page.proofs.Checks.{map-refused, map-checked}
 use Rattle.page.proofs.Strips.{strip-body, words-light}
 use Rattle.page.proofs.map.check_map.Statement.{statement}
@@ -24,18 +20,8 @@ limits c = output-limits _ _ (ok c)
 returns : tie.Need-returns
 returns c = map-refused _ _ (c .before .before .check-output .ensures .0) (c .enum-told2 .given .1)
 
-words : (c : tie.After-body) → IsBody (now (c .body .result))
-words c = rw (c .body .ensures) (strip-body _ (limits (c .before) .strip))
-
--- so many pixels
-few : (c : tie.After-body) → length (now (c .body .result)) / 3 ≤ 2 ^ 40
-few c = omega (arith, words c .few)
-
 lit-up-to-requires : tie.Need-lit-up-to-requires
-lit-up-to-requires c κs = words (c .before)
-
-check-light-requires : tie.Need-check-light-requires
-check-light-requires c κs = let n = c .before in omega (arith, few (n .before), c .lit-up-to .ensures, n .enough-for .ensures)
+lit-up-to-requires c κs = let b = c .before in rw (b .body .ensures) (strip-body _ (limits (b .before) .strip))
 
 returns-2 : tie.Need-returns-2
 returns-2 c =
@@ -50,5 +36,5 @@ pub check-map-spec : {M : Type 1} → statement M
 check-map-spec =
     tie.close
     (tie.spec
-    (λ c κs. search needs) (λ c. search needs) (λ c. search needs) returns (λ c κs. search needs) (λ c κs. few c)
-    lit-up-to-requires check-light-requires returns-2)
+    (λ c κs. search needs) (λ c. search needs) (λ c. search needs) returns (λ c κs. search needs) (λ c κs. search needs)
+    lit-up-to-requires (λ c κs. search needs) returns-2)

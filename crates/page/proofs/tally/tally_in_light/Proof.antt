@@ -22,4 +22,4 @@ returns-2 c =
 pub tally-in-light-spec : {M : Type 1} → statement M
 tally-in-light-spec =
     tie.close
-    (tie.spec (λ c κs. c .before .pre .sum .few) (λ c. search needs) average-of-requires (λ c. search needs) returns returns-2)
+    (tie.spec (λ c κs. search needs) (λ c. search needs) average-of-requires (λ c. search needs) returns returns-2)
