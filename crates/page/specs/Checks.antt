@@ -9,7 +9,7 @@ use Rattle.strip.specs.Reading.{stripPixels}
 use Rattle.body.specs.Luminances.{litCount}
 use Rattle.light.specs.Light.{checkLight}
 
--- "16 times its lit pixels" against "its pixel count"
+-- "its lit pixels" against "its pixel count"
 abbrev pub stripLight : List ℕ → Verdict
 stripLight s = checkLight (litCount (stripPixels s)) (pixels (headerFields s))
 
