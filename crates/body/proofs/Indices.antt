@@ -6,8 +6,10 @@ use native.Mathlib.Omega.{arith}
 use borrow.Author.Tests.{ne-eqb}
 use lib.ListN.{length, getD, take, drop, length-take, length-drop}
 use lib.Seq.{drop-append-seam, getD-take, getD-drop}
+use Rattle.number.specs.Channels.{IsCode}
 use Rattle.number.specs.declared.channel.Pixel.{Pixel}
 use Rattle.refusal.specs.Output.{onto}
+use Rattle.word.specs.Fields.{low16}
 use Rattle.word.specs.Pixels.{wordPixels}
 use Rattle.word.specs.loops.Walks.{pixelAt}
 use Rattle.word.proofs.Pixels.{length-word-pixels, pixel-at}
@@ -28,6 +30,12 @@ body-part ws body a k =
       few = omega (arith, body .few);
       code = λ j h. rw (getD-take k (drop a ws) j 0 (omega arith), getD-drop a ws j 0) (body .code (a + j) (omega arith));
     }
+
+-- the codes of pixel p
+pub pixel-codes : (ws : List ℕ) → IsBody ws → (p : ℕ) → p < length ws / 3
+    → IsCode (low16 (getD ws (3 * p) 0)) × IsCode (low16 (getD ws (3 * p + 1) 0)) × IsCode (low16 (getD ws (3 * p + 2) 0))
+pixel-codes ws body p inside =
+    (body .code (3 * p) (omega arith), body .code (3 * p + 1) (omega arith), body .code (3 * p + 2) (omega arith))
 
 -- ---- any index but 0
 

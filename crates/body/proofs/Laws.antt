@@ -2,6 +2,8 @@
 
 -- pixels of words are pixels; the luminance of a lit one; how many there are; their ranges
 pub use Rattle.body.proofs.Luminances.{pixels-valid, storedLuminance, lit-luminance, lit-count, luminances-few, every-luminance}
+-- the codes of a pixel of words
+pub use Rattle.body.proofs.Indices.{pixel-codes}
 -- pixels one after another: their luminances, their tally and their levels
 pub use Rattle.body.proofs.Luminances.{luminances-append, tally-join}
 pub use Rattle.body.proofs.Bytes.{levels-append, length-levels}

@@ -1,13 +1,13 @@
 -- Lit pixels counted: at each turn those of the pixels so far. Assumes nothing.
 use Prim.Native.Nat.{ℕ, _+_, _/_, _≤_, _<_}
 use mathlib.Core.Path.{_≡_, refl, sym, ap, ap₂, _∙_}
-use mathlib.Core.Bool.{not, _||_, cond}
+use mathlib.Core.Bool.{Bool, true, false, not, _||_, cond}
 use mathlib.Core.List.{List, [], _∷_, _++_}
 use native.Mathlib.Omega.{arith}
-use borrow.Author.Tests.{ne-eqb}
+use borrow.Author.Tests.{eqb-true, ne-eqb}
 use lib.Dec.{eqb}
 use lib.ListN.{length, take, drop, take-append-drop, length-append}
-use lib.Seq.{take-all, length-take-le}
+use lib.Seq.{take-all}
 use Rattle.number.specs.declared.channel.Channel.{Channel}
 use Rattle.number.specs.declared.channel.Channel.the-variants.{Black, Lit}
 use Rattle.number.specs.declared.channel.Pixel.{Pixel}
@@ -35,18 +35,23 @@ module _ (red green blue : ℕ) (codes : IsCode (low16 red) × IsCode (low16 gre
   by-codes : litCount one ≡ cond (not (eqb (low16 red) 0) || not (eqb (low16 green) 0) || not (eqb (low16 blue) 0)) 1 0
   by-codes = rw (black-code _ _ (codes .0), black-code _ _ (codes .1), black-code _ _ (codes .2))
 
-  -- case by case
-  pub red-counts : (low16 red ≡ 0 → ⊥) → 1 ≡ litCount one
-  red-counts r = rw (by-codes, ne-eqb _ _ r)
+  -- and so by their sum
+  pub unlit-counts : low16 red + low16 green + low16 blue ≡ 0 → 0 ≡ litCount one
+  unlit-counts h =
+      let r : low16 red ≡ 0 = omega arith in
+      let g : low16 green ≡ 0 = omega arith in
+      let b : low16 blue ≡ 0 = omega arith in
+      rw (by-codes, r, g, b)
 
-  pub green-counts : low16 red ≡ 0 → (low16 green ≡ 0 → ⊥) → 1 ≡ litCount one
-  green-counts r g = rw (by-codes, r, ne-eqb _ _ g)
-
-  pub blue-counts : low16 red ≡ 0 → low16 green ≡ 0 → (low16 blue ≡ 0 → ⊥) → 1 ≡ litCount one
-  blue-counts r g b = rw (by-codes, r, g, ne-eqb _ _ b)
-
-  pub none-counts : low16 red ≡ 0 → low16 green ≡ 0 → low16 blue ≡ 0 → 0 ≡ litCount one
-  none-counts r g b = rw (by-codes, r, g, b)
+  pub lit-counts : (low16 red + low16 green + low16 blue ≡ 0 → ⊥) → 1 ≡ litCount one
+  lit-counts h = by (eqb (low16 red) 0) (eqb (low16 green) 0) (eqb (low16 blue) 0) refl refl refl
+    where
+      by : (r g b : Bool) → eqb (low16 red) 0 ≡ r → eqb (low16 green) 0 ≡ g → eqb (low16 blue) 0 ≡ b
+          → 1 ≡ litCount one
+      by false g b e f d = rw (by-codes, e)
+      by true false b e f d = rw (by-codes, e, f)
+      by true true false e f d = rw (by-codes, e, f, d)
+      by true true true e f d = absurd (h (omega (arith, eqb-true (low16 red) 0 e, eqb-true (low16 green) 0 f, eqb-true (low16 blue) 0 d)))
 
 -- ---- pixels one after another
 
@@ -69,12 +74,6 @@ counting-none ws = refl
 pub counting-next : (ws : List ℕ) (p : ℕ) → p < length ws / 3 → counting ws (p + 1) ≡ counting ws p + litCount (pixelAt ws p ∷ [])
 unfolding counting
 counting-next ws p h = ap litCount (take-pixel ws p h) ∙ lit-append (take p (wordPixels ws)) (pixelAt ws p ∷ [])
-
-pub counting-few : (ws : List ℕ) (p : ℕ) → p ≤ length ws / 3 → counting ws p ≤ p
-unfolding counting
-counting-few ws p h =
-    let long : length (take p (wordPixels ws)) ≡ p = length-take-le p (wordPixels ws) (rw (length-word-pixels ws) h) in
-    omega (arith, lit-few (take p (wordPixels ws)))
 
 pub counting-most : (ws : List ℕ) (p : ℕ) → counting ws p ≤ litCount (wordPixels ws)
 unfolding counting

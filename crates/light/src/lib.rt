@@ -36,16 +36,8 @@ fn lit_one(red: u32, green: u32, blue: u32) -> u64
     requires { ⌜ IsCode (low16 red) × IsCode (low16 green) × IsCode (low16 blue) ⌝ }
     ensures { λ r. ⌜ r ≡ litCount (pixelOf (wordChannel red) (wordChannel green) (wordChannel blue) ∷ []) ⌝ }
 {
-    if low_half(red) != 0 {
-        return 1;
-    }
-    if low_half(green) != 0 {
-        return 1;
-    }
-    if low_half(blue) != 0 {
-        return 1;
-    }
-    0
+    let codes = low_half(red) as u64 + low_half(green) as u64 + low_half(blue) as u64;
+    if codes == 0 { 0 } else { 1 }
 }
 
 // The number of lit pixels of channel words, or `most` where there are more: as soon as it is reached, no further word is read.

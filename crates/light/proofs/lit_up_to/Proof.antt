@@ -1,14 +1,12 @@
 -- `light::lit_up_to` meets its contract: at each turn `lit` counts the pixels so far. Assumes nothing.
 use borrow.Author.Needs.{needs}
-use Prim.Native.Nat.{_+_, _-_, _*_, _^_, _≤_}
+use Prim.Native.Nat.{_-_, _^_, _≤_}
 use mathlib.Core.Path.{_≡_}
 use native.Mathlib.Omega.{arith}
 use mathlib.Core.List.{[], _∷_}
-use lib.ListN.{getD}
-use Rattle.number.specs.Channels.{IsCode}
-use Rattle.word.specs.Fields.{low16}
 use Rattle.word.specs.loops.Walks.{pixelAt}
-use Rattle.light.proofs.Counting.{lit-few, counting, counting-none, counting-next, counting-few, counting-most, counting-all}
+use Rattle.body.proofs.Laws.{pixel-codes}
+use Rattle.light.proofs.Counting.{lit-few, counting, counting-none, counting-next, counting-most, counting-all}
 use Rattle.light.proofs.lit_up_to.Statement.{statement}
 use Rattle.light.proofs.lit_up_to.Tie as tie
 
@@ -28,24 +26,14 @@ returns c =
     let most = counting-most (c .before .before .before .before .args .words .now) (l .p) in
     omega (arith, same, most, l .inv)
 
--- the codes of pixel p
-codes : (c : tie.Else1 Inv-loop μ-loop) → let ws = c .before .before .before .before .args .words .now in let p = c .before .before .loop .p in
-    IsCode (low16 (getD ws (3 * p) 0)) × IsCode (low16 (getD ws (3 * p + 1) 0)) × IsCode (low16 (getD ws (3 * p + 2) 0))
-codes c =
-    let pre = c .before .before .before .before .pre in
-    let p = c .before .before .loop .p in
-    let inside = c .before .loop-test .taken in (
-      pre .code (3 * p) (omega (arith, inside)),
-      pre .code (3 * p + 1) (omega (arith, inside)),
-      pre .code (3 * p + 2) (omega (arith, inside)),
-    )
-
 -- so many pixels are tried; the places of their words fit 64 bits
 few : (c : tie.In-loop Inv-loop μ-loop) → c .before .loop .p ≤ 2 ^ 40
 few c = omega (arith, c .loop-test .taken, c .before .before .before .pre .few)
 
 lit-one-requires : tie.Need-lit-one-requires Inv-loop μ-loop
-lit-one-requires c κs = codes (c .before .before .before)
+lit-one-requires c κs =
+    let t = c .before .before .before .before in
+    pixel-codes _ (t .before .before .before .pre) _ (t .loop-test .taken)
 
 loop-again : tie.Need-loop-again Inv-loop μ-loop
 loop-again c =
@@ -60,13 +48,6 @@ loop-again c =
       omega (arith, t .loop-test .taken),
     )
 
-add-lit : tie.Need-add-lit Inv-loop μ-loop
-add-lit c =
-    let t = c .before .before .before .before .before in
-    let l = t .before .loop in
-    let ws = t .before .before .before .args .words .now in
-    omega (arith, few t, counting-few ws (l .p) (l .inv .2), lit-few (pixelAt ws (l .p) ∷ []), l .inv .0, c .lit-one .ensures)
-
 returns-2 : tie.Need-returns-2 Inv-loop μ-loop
 returns-2 c =
     let l = c .before .loop in
@@ -78,4 +59,4 @@ lit-up-to-spec =
     tie.close
     (tie.spec
     Inv-loop μ-loop loop-holds returns (λ c. omega (arith, few (c .before))) (λ c. omega (arith, few (c .before))) (λ c. search needs) (λ c. search needs) (λ c. omega (arith, few (c .before .before))) (λ c. search needs)
-    (λ c. search needs) (λ c. omega (arith, few (c .before .before .before))) (λ c. search needs) lit-one-requires add-lit (λ c. search needs) (λ c. search needs) loop-again returns-2)
+    (λ c. search needs) (λ c. omega (arith, few (c .before .before .before))) (λ c. search needs) lit-one-requires (λ c. omega (arith, loop-again c .1, c .before .before .before .before .before .before .before .before .fits)) (λ c. search needs) (λ c. search needs) loop-again returns-2)

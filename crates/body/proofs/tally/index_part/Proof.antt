@@ -9,14 +9,12 @@ use borrow.Author.Tests.{ne-eqb}
 use lib.ListN.{length, getD, set, replicate}
 use lib.Seq.{sets, length-sets}
 use denote.Ref.{now}
-use Rattle.number.specs.Channels.{IsCode}
-use Rattle.word.specs.Fields.{low16}
 use Rattle.word.specs.loops.Walks.{pixelAt}
 use Rattle.luminance.specs.loops.Codes.{indexCount}
 use Rattle.body.specs.loops.Indices.{pixelIndex, indexBytes}
 use Rattle.body.specs.loops.NearBlocks.{NearIndices}
 use Rattle.body.specs.loops.Tallying.{stepsAt, unlitAt}
-use Rattle.body.proofs.Indices.{is-index}
+use Rattle.body.proofs.Indices.{pixel-codes, is-index}
 use Rattle.body.proofs.Luminances.{pixel-valid}
 use Rattle.body.proofs.NearBlocks.{none-near}
 use Rattle.body.proofs.Tallying.{mantissa-at}
@@ -47,25 +45,13 @@ near-indices-requires c κs = (omega (arith, c .before .if1 .taken), ap length (
 loop-holds : tie.Need-loop-holds Inv-loop μ-loop
 loop-holds c = (refl, λ fits. indexed-none _ _ _, noted-none _ _, summing-none unlitAt _, summing-none stepsAt _, omega arith)
 
--- the codes of pixel p
-codes : (c : tie.In-loop Inv-loop μ-loop) → let s = c .before .before .before .before .before in let p = c .before .loop .p in
-    IsCode (low16 (getD (s .args .words .now) (3 * p) 0)) × IsCode (low16 (getD (s .args .words .now) (3 * p + 1) 0))
-    × IsCode (low16 (getD (s .args .words .now) (3 * p + 2) 0))
-codes c =
-    let pre = c .before .before .before .before .before .pre in
-    let p = c .before .loop .p in (
-      pre .3 .code (3 * p) (omega (arith, c .loop-test .taken)),
-      pre .3 .code (3 * p + 1) (omega (arith, c .loop-test .taken)),
-      pre .3 .code (3 * p + 2) (omega (arith, c .loop-test .taken)),
-    )
-
 luminance-index-requires : tie.Need-luminance-index-requires Inv-loop μ-loop
 luminance-index-requires c κs =
     let g = c .before .before in
     let r = g .before .before in
     let t = r .before .before .before .before .before in
     let pre = t .before .before .before .before .before .pre in
-    let k = codes t in
+    let k = pixel-codes _ (pre .3) _ (t .loop-test .taken) in
     (pre .1, pre .2, rw (r .low-half .ensures) (k .0), rw (g .low-half2 .ensures) (k .1), rw (c .low-half3 .ensures) (k .2))
 
 abbrev turn : tie.After-luminance-index Inv-loop μ-loop → tie.In-loop Inv-loop μ-loop
@@ -117,7 +103,7 @@ settled c =
       unlit = w .10 ∙ w .8 .ensures ∙ ap (λ u. u + unlitAt x) (inv .3) ∙ summing-next ws (l .p) inside index unlitAt;
     })
     (λ w.
-    let k = codes t in
+    let k = pixel-codes ws (s .pre .3) (l .p) inside in
     let x = c .before .wide-index .result in
     let read : x ≡ getD (l .indices) (l .p) 0 = c .before .wide-index .ensures in
     let here : x ≡ getD (n .if1 .indices) (l .p) 0 =
