@@ -52,7 +52,7 @@ bounded s (Refuses r i) p =
       present = λ e. absurd (numbered r i e);
       mean = λ e. absurd (numbered r i e);
       extremes = λ e. absurd (numbered r i e);
-      refused = λ _. (refl, refl, refl, refl, refl, refl);
+      refused = λ _. (refl, refl, refl, refl, refl, refl, refl);
     }
 
 pub answered : (s : List ℕ) (a : TallyOrRefusal) (r : TallyAnswer) {rule : TallyOrRefusal} → r ≡ tallyAnswer a

@@ -2,6 +2,7 @@
 use Prim.Native.Nat.{ℕ, _<_}
 use mathlib.Core.Path.{_≡_}
 use mathlib.Core.List.{List}
+use lib.IntN.{pos}
 use Rattle.strip.specs.Reading.{stripPixels}
 use Rattle.refusal.specs.declared.Outcome.{Outcome}
 use Rattle.refusal.specs.declared.Verdict.the-variants.{Accepted}
@@ -19,7 +20,7 @@ abbrev pub brightestIn : TallyAnswer → Stored
 brightestIn r = record { exponent = r .«brightest_exponent»; mantissa = r .«brightest_mantissa» }
 
 -- An accepted page has a lit pixel: N counts them, the average is present, the first half of demand 3 holds of it, and the extremes are
--- those of the lit pixels. A refusal has 0 in the place of each.
+-- those of the lit pixels. A refusal has 0 in the place of N, of the average and of the extremes.
 pub record TallyBound (s : List ℕ) (r : TallyAnswer) : Type 0 where
   pub count : r .number ≡ 0 → r .lit ≡ litCount (stripPixels s)
   pub lit : r .number ≡ 0 → HasLight (stripPixels s)
@@ -27,7 +28,7 @@ pub record TallyBound (s : List ℕ) (r : TallyAnswer) : Type 0 where
   pub mean : r .number ≡ 0 → MeanHalf (stripPixels s) (r .average)
   pub extremes : r .number ≡ 0 → AreExtremes (darkestIn r) (brightestIn r) (luminancesOf (stripPixels s))
   pub refused : 0 < r .number
-      → (r .lit ≡ 0) × (r .present ≡ 0)
+      → (r .lit ≡ 0) × (r .present ≡ 0) × (r .average ≡ pos 0)
       × (r .«darkest_exponent» ≡ 0) × (r .«darkest_mantissa» ≡ 0) × (r .«brightest_exponent» ≡ 0) × (r .«brightest_mantissa» ≡ 0)
 
 -- the second half holds of the bytes that an accepted call leaves

@@ -8,7 +8,7 @@ use number::ratio::Stored;
 use page::tally::TallyOrRefusal;
 use refusal::outcome_of;
 
-// A tally with its average and its extremes; what the page does not have is 0.
+// A tally with its average and its extremes; a refusal has 0 in all of them, and so has what a tally is without.
 #[repr(C)]
 pub struct TallyAnswer {
     pub number: u64,

@@ -12,6 +12,7 @@ use mir.Syntax.{w64}
 use mir.Val.{Fits, SFits, toZ, ofZ}
 use mir.Facts.{toZ-ofZ, fits-natAbs}
 use Rattle.number.proofs.Laws.{sub-pos, sub-neg, sub-cases, sub-minus}
+use Rattle.average.specs.Averages.{floorDiv}
 
 -- −1 − z
 pub complement-pos : (a : ℕ) → negsuc 0 -ℤ pos a ≡ negsuc a
@@ -43,6 +44,10 @@ held n h = toZ-ofZ {w = w64} (record { sfits = h })
 
 pub sum-held : (y z : ℤ) → SFits w64 y → SFits w64 z → toZ w64 (ofZ w64 y) +ℤ toZ w64 (ofZ w64 z) ≡ y +ℤ z
 sum-held y z f g = rw (toZ-ofZ f, toZ-ofZ g)
+
+-- a quotient as a call hands it on
+pub quotient-held : {z q : ℤ} (n : ℕ) → SFits w64 z → SFits w64 q → q ≡ floorDiv (toZ w64 (ofZ w64 z)) n → toZ w64 (ofZ w64 q) ≡ floorDiv z n
+quotient-held n z q e = toZ-ofZ q ∙ e ∙ ap (λ z. floorDiv z n) (toZ-ofZ z)
 
 pub sub-fits : (a b : ℕ) → a < 2 ^ 63 → b < 2 ^ 63 → SFits w64 (subℕ a b)
 sub-fits =

@@ -11,7 +11,7 @@ use Rattle.refusal.specs.declared.Refusal.the-variants.{WrongLength, SmallOutpu
 use Rattle.refusal.specs.declared.Verdict.{Verdict}
 use Rattle.refusal.specs.declared.Verdict.the-variants.{Accepted, Refused}
 use Rattle.refusal.specs.Verdicts.{require, andThen}
-use Rattle.refusal.proofs.Laws.{and-passed}
+use Rattle.refusal.proofs.Laws.{and-passed, and-refused}
 use Rattle.word.specs.declared.header.Header.{Header}
 use Rattle.word.specs.Words.{pixels}
 use Rattle.word.proofs.Limits.{size-limits}
@@ -84,25 +84,25 @@ module _ (r : List ℕ) (first : Header) where
 
 -- ---- the joined height: that of the bands that were passed, and of those that are left
 
-pub record Counting (r : List ℕ) (height i : ℕ) : Type 0 where
+pub record Heights (r : List ℕ) (height i : ℕ) : Type 0 where
   pub within : i ≤ length r
   pub same : height + joinedHeight (seriesFrom r i) ≡ joinedHeight (seriesOf r)
 
 module _ (r : List ℕ) where
-  pub counting-all : Counting r 0 0
-  counting-all = record { within = omega arith; same = zero-add (joinedHeight (seriesOf r)) }
+  pub heights-all : Heights r 0 0
+  heights-all = record { within = omega arith; same = zero-add (joinedHeight (seriesOf r)) }
 
-  module _ {height i : ℕ} (inv : Counting r height i) where
-    pub counting-next : i < length r → {band : List ℕ} → band ≡ stripAt r i
-        → Counting r (height + headerFields band .height) (i + length band)
+  module _ {height i : ℕ} (inv : Heights r height i) where
+    pub heights-next : i < length r → {band : List ℕ} → band ≡ stripAt r i
+        → Heights r (height + headerFields band .height) (i + length band)
     unfolding joinedHeight
-    counting-next h b =
+    heights-next h b =
         let same = rw (series-next r i h) at (inv .same) in
         rw b (record { within = strip-at-within r i h .1; same = omega arith })
 
-    pub counting-done : length r ≤ i → height ≡ joinedHeight (seriesOf r)
+    pub heights-done : length r ≤ i → height ≡ joinedHeight (seriesOf r)
     unfolding joinedHeight
-    counting-done h = let same = rw (series-over r i h) at (inv .same) in omega arith
+    heights-done h = let same = rw (series-over r i h) at (inv .same) in omega arith
 
   pub few-rows : checkBands r ≡ Accepted → joinedHeight (seriesOf r) ≤ 8192
   few-rows e = size-limits _ _ (bands-accepted r e .fits) .height
@@ -115,8 +115,8 @@ module _ (r : List ℕ) where
 
 module _ (r : List ℕ) where
   pub bands-refused : {v : Verdict} {q : Refusal} {j : ℕ} → v ≡ checkBands r → v ≡ Refused q j → v ≡ checkTallyBands r
-  unfolding checkTallyBands andThen
-  bands-refused e f = rw (sym e ∙ f) f
+  unfolding checkTallyBands
+  bands-refused e f = and-refused _ e f
 
   pub bands-passed : checkTallyBands r ≡ Accepted → checkBands r ≡ Accepted
   unfolding checkTallyBands
@@ -131,8 +131,8 @@ module _ (r : List ℕ) where
 
 module _ (r : List ℕ) (room : ℕ) where
   pub light-refused : {v : Verdict} {q : Refusal} {j : ℕ} → v ≡ checkTallyBands r → v ≡ Refused q j → v ≡ checkMapBands r room
-  unfolding checkMapBands andThen
-  light-refused e f = rw (sym e ∙ f) f
+  unfolding checkMapBands
+  light-refused e f = and-refused _ e f
 
   module _ (e : checkTallyBands r ≡ Accepted) where
     pub map-small : room < 3 * pixels (tallHeader r) → Refused SmallOutput 0 ≡ checkMapBands r room

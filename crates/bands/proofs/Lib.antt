@@ -5,5 +5,5 @@ pub mod Outputs
 pub mod Tall
 pub mod Cuts
 pub mod Bounds
-pub mod Averages
+pub mod Joined
 pub mod Levels

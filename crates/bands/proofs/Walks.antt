@@ -22,8 +22,7 @@ use Rattle.body.specs.Luminances.{luminancesOf, litCount}
 use Rattle.tone.specs.declared.tone.Tone.{Tone}
 use Rattle.body.specs.Levels.{levelsUnder}
 use Rattle.body.specs.loops.Indices.{IsBody, indicesOf}
-use Rattle.body.proofs.Laws.{lit-count, luminances-few, every-luminance, tally-join}
-use Rattle.light.proofs.Laws.{lit-append}
+use Rattle.body.proofs.Laws.{lit-count, lit-append, luminances-few, every-luminance, tally-join}
 use Rattle.page.proofs.Laws.{strip-body, strip-valid}
 use Rattle.series.specs.Series.{seriesOf, stripAt, standingAt}
 use Rattle.series.specs.loops.Walks.{seriesFrom}
@@ -134,7 +133,7 @@ pub tally-all : (r : List ℕ) (ok : AreBands r) {i : ℕ} {ps : List Pixel} {t 
     → length r ≤ i → t ≡ joinTallies (seriesOf r)
 tally-all r ok w tally h = tally ∙ ap (λ ps. tallyOf (luminancesOf ps)) (walked-all r ok w h) ∙ sym (tallies-of (seriesOf r))
 
--- ---- the three walks
+-- ---- the walks
 
 -- tallied
 pub record Tallied (r : List ℕ) (t : Tally) (i : ℕ) : Type 0 where
@@ -159,17 +158,18 @@ pub record Mapped (r : List ℕ) (tone : Tone) (old output : List ℕ) (i done :
   pub content : output ≡ onto (levelsUnder tone passed) old
   pub long : length output ≡ length old
 
+-- their lit pixels counted, up to `most`
+pub record Counted (r : List ℕ) (most lit i : ℕ) : Type 0 where
+  pub passed : List Pixel
+  pub walk : Walked r i passed
+  pub count : lit ≡ min most (litCount passed)
+
 -- no pixel: no tally
 pub none-tallied : {t : Tally} → t ≡ tallyOf [] → t ≡ tallyOf (luminancesOf [])
 unfolding luminancesOf
 none-tallied e = e
 
--- ---- their lit pixels counted up to `most`
-
-pub record Counted (r : List ℕ) (most lit i : ℕ) : Type 0 where
-  pub passed : List Pixel
-  pub walk : Walked r i passed
-  pub count : lit ≡ min most (litCount passed)
+-- ---- lit pixels counted from band to band
 
 pub counted-next : (most : ℕ) {lit more : ℕ} (ps qs : List Pixel) → lit ≡ min most (litCount ps) → more ≡ min (most - lit) (litCount qs)
     → lit + more ≡ min most (litCount (ps ++ qs))

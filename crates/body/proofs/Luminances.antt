@@ -1,10 +1,10 @@
 -- The luminances of a page's lit pixels. Assumes nothing.
-use Prim.Native.Nat.{ℕ, suc, _≤_}
-use mathlib.Core.Path.{_≡_, refl, ap, _∙_}
+use Prim.Native.Nat.{ℕ, suc, _+_, _≤_}
+use mathlib.Core.Path.{_≡_, refl, sym, ap, ap₂, _∙_}
 use mathlib.Core.Bool.{Bool, true, false, cond}
 use mathlib.Core.List.{List, [], _∷_, _++_}
 use native.Mathlib.Omega.{arith}
-use lib.ListN.{length}
+use lib.ListN.{length, length-append}
 use Rattle.number.specs.declared.channel.Channel.the-variants.{Lit}
 use Rattle.number.specs.declared.channel.Pixel.{Pixel}
 use Rattle.number.specs.declared.ratio.Stored.{Stored}
@@ -21,14 +21,14 @@ use Rattle.average.proofs.Laws.{tallies-join}
 
 -- ---- pixels one after another
 
-lit-append : (y : Luminance) (ys zs : List Stored) → ifLit y (ys ++ zs) ≡ ifLit y ys ++ zs
-lit-append Unlit ys zs = refl
-lit-append (Luminance.Lit y) ys zs = refl
+one-append : (y : Luminance) (ys zs : List Stored) → ifLit y (ys ++ zs) ≡ ifLit y ys ++ zs
+one-append Unlit ys zs = refl
+one-append (Luminance.Lit y) ys zs = refl
 
 pub luminances-append : (ps qs : List Pixel) → luminancesOf (ps ++ qs) ≡ luminancesOf ps ++ luminancesOf qs
 unfolding luminancesOf
 luminances-append [] qs = refl
-luminances-append (p ∷ ps) qs = rw (luminances-append ps qs) (lit-append (luminanceOf p) (luminancesOf ps) (luminancesOf qs))
+luminances-append (p ∷ ps) qs = rw (luminances-append ps qs) (one-append (luminanceOf p) (luminancesOf ps) (luminancesOf qs))
 
 pub tally-join : (ps qs : List Pixel)
     → tallyOf (luminancesOf (ps ++ qs)) ≡ join (tallyOf (luminancesOf ps)) (tallyOf (luminancesOf qs))
@@ -62,6 +62,14 @@ luminances-few (p ∷ ps) = by (luminanceOf p) (luminances-few ps)
     by : (y : Luminance) → length (luminancesOf ps) ≤ length ps → length (ifLit y (luminancesOf ps)) ≤ suc (length ps)
     by Unlit h = omega arith
     by (Luminance.Lit y) h = omega arith
+
+pub lit-append : (ps qs : List Pixel) → litCount (ps ++ qs) ≡ litCount ps + litCount qs
+lit-append ps qs =
+    sym (lit-count (ps ++ qs)) ∙ ap length (luminances-append ps qs) ∙ length-append (luminancesOf ps) (luminancesOf qs)
+    ∙ ap₂ (λ m n. m + n) (lit-count ps) (lit-count qs)
+
+pub lit-few : (ps : List Pixel) → litCount ps ≤ length ps
+lit-few ps = let few = luminances-few ps in let count = lit-count ps in omega arith
 
 -- ---- pixels of words are pixels, and their luminances lie in range
 

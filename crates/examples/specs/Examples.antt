@@ -1,4 +1,4 @@
--- The worked examples of document 01 that are proved, as one table of inputs and answers. Assumes nothing.
+-- The worked examples of document 01 that are proved, and two of a rule of document 02, as one table of inputs and answers. Assumes nothing.
 -- "Marked ▲ are the proved ones. Hexadecimal halves and singles; (E,M) decimal."
 use Prim.Native.Nat.{ℕ}
 use mathlib.Core.Path.{_≡_}

@@ -1,12 +1,12 @@
 -- Lit pixels counted: at each turn those of the pixels so far. Assumes nothing.
 use Prim.Native.Nat.{ℕ, _+_, _/_, _≤_, _<_}
-use mathlib.Core.Path.{_≡_, refl, sym, ap, ap₂, _∙_}
+use mathlib.Core.Path.{_≡_, refl, sym, ap, _∙_}
 use mathlib.Core.Bool.{Bool, true, false, not, _||_, cond}
-use mathlib.Core.List.{List, [], _∷_, _++_}
+use mathlib.Core.List.{List, [], _∷_}
 use native.Mathlib.Omega.{arith}
 use borrow.Author.Tests.{eqb-true, ne-eqb}
 use lib.Dec.{eqb}
-use lib.ListN.{length, take, drop, take-append-drop, length-append}
+use lib.ListN.{length, take, drop, take-append-drop}
 use lib.Seq.{take-all}
 use Rattle.number.specs.declared.channel.Channel.{Channel}
 use Rattle.number.specs.declared.channel.Channel.the-variants.{Black, Lit}
@@ -18,8 +18,8 @@ use Rattle.word.specs.Pixels.{pixelOf, wordChannel, wordPixels}
 use Rattle.word.specs.loops.Walks.{pixelAt}
 use Rattle.word.proofs.Pixels.{length-word-pixels, take-pixel}
 use Rattle.luminance.specs.Pixels.{isBlack}
-use Rattle.body.specs.Luminances.{luminancesOf, litCount}
-use Rattle.body.proofs.Laws.{lit-count, luminances-append, luminances-few}
+use Rattle.body.specs.Luminances.{litCount}
+use Rattle.body.proofs.Laws.{lit-append}
 
 -- ---- one pixel
 
@@ -53,15 +53,7 @@ module _ (red green blue : ℕ) (codes : IsCode (low16 red) × IsCode (low16 gre
       by true true false e f d = rw (by-codes, e, f, d)
       by true true true e f d = absurd (h (omega (arith, eqb-true (low16 red) 0 e, eqb-true (low16 green) 0 f, eqb-true (low16 blue) 0 d)))
 
--- ---- pixels one after another
-
-pub lit-append : (ps qs : List Pixel) → litCount (ps ++ qs) ≡ litCount ps + litCount qs
-lit-append ps qs =
-    sym (lit-count (ps ++ qs)) ∙ ap length (luminances-append ps qs) ∙ length-append (luminancesOf ps) (luminancesOf qs)
-    ∙ ap₂ (λ m n. m + n) (lit-count ps) (lit-count qs)
-
-pub lit-few : (ps : List Pixel) → litCount ps ≤ length ps
-lit-few ps = let few = luminances-few ps in let count = lit-count ps in omega arith
+-- ---- pixel by pixel
 
 -- the lit pixels of words before number p
 unfoldable pub counting : List ℕ → (p : ℕ) → ℕ

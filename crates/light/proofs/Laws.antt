@@ -2,5 +2,3 @@
 
 -- the rule: an accepted page has a lit pixel; its lit pixels may be counted up to what is enough
 pub use Rattle.light.proofs.Light.{light-lit, counted-enough}
--- lit pixels of lists one after the other
-pub use Rattle.light.proofs.Counting.{lit-append}

@@ -57,7 +57,7 @@ module _ (t : Tone) (tone : IsTone t) where
 
 module _ (s : List ℕ) (ok : checkTally s ≡ Accepted) where
   -- so that it has an average
-  pub strip-present : averageOf (stripTally s .count) (stripTally s .sum) ≡ Present (averageSteps (stripTally s)) (storedAverage (averageSteps (stripTally s)))
+  strip-present : averageOf (stripTally s .count) (stripTally s .sum) ≡ Present (averageSteps (stripTally s)) (storedAverage (averageSteps (stripTally s)))
   strip-present = present _ _ (rw (lit-count (stripPixels s)) (tally-lit s ok))
 
   mean-half : MeanHalf (stripPixels s) (averageSteps (stripTally s))

@@ -1,6 +1,6 @@
 -- What the checks of tallying and mapping say of a strip: the only laws that open them. Assumes nothing.
 use Prim.Native.Nat.{ℕ, _≤_, _<_}
-use mathlib.Core.Path.{_≡_, sym, ap, _∙_}
+use mathlib.Core.Path.{_≡_, ap}
 use mathlib.Core.List.{List}
 use native.Mathlib.Nat.{mul-pos}
 use lib.ListN.{length}
@@ -8,7 +8,7 @@ use Rattle.refusal.specs.declared.Refusal.{Refusal}
 use Rattle.refusal.specs.declared.Verdict.{Verdict}
 use Rattle.refusal.specs.declared.Verdict.the-variants.{Accepted, Refused}
 use Rattle.refusal.specs.Verdicts.{andThen}
-use Rattle.refusal.proofs.Laws.{and-passed, and-met}
+use Rattle.refusal.proofs.Laws.{and-passed, and-met, and-refused}
 use Rattle.word.proofs.Limits.{size-limits}
 use Rattle.strip.specs.Checks.{declaredLength, channelCount, checkStrip, checkOutput}
 use Rattle.strip.specs.Reading.{stripPixels}
@@ -41,8 +41,8 @@ module _ (s : List ℕ) where
 
   module _ (room : ℕ) where
     pub map-refused : {v : Verdict} {r : Refusal} {i : ℕ} → v ≡ checkOutput s room → v ≡ Refused r i → v ≡ checkMap s room
-    unfolding checkMap andThen
-    map-refused e f = rw (sym e ∙ f) f
+    unfolding checkMap
+    map-refused e f = and-refused (stripLight s) e f
 
     pub map-checked : checkOutput s room ≡ Accepted → checkMap s room ≡ stripLight s
     unfolding checkMap andThen

@@ -1,6 +1,6 @@
 -- Laws of a chain of checks, and of the numbers that answers tell. Assumes nothing.
 use Prim.Native.Nat.{ℕ}
-use mathlib.Core.Path.{_≡_, refl, ap}
+use mathlib.Core.Path.{_≡_, refl, sym, ap, _∙_}
 use mathlib.Core.Bool.{Bool, true, false}
 use native.Mathlib.Omega.{arith}
 use Rattle.refusal.specs.declared.Refusal.{Refusal}
@@ -43,6 +43,11 @@ require-met r i e f = rw (e, f)
 pub and-met : {v w : Verdict} → v ≡ Accepted → w ≡ Accepted → andThen v w ≡ Accepted
 unfolding andThen
 and-met e f = rw (e, f)
+
+-- a refused chain, whatever stands behind it
+pub and-refused : {u v : Verdict} {r : Refusal} {i : ℕ} (w : Verdict) → u ≡ v → u ≡ Refused r i → u ≡ andThen v w
+unfolding andThen
+and-refused w e f = rw (sym e ∙ f) f
 
 -- three chains, one behind another
 pub and-assoc : (u v w : Verdict) → andThen (andThen u v) w ≡ andThen u (andThen v w)

@@ -60,11 +60,12 @@ impl Bands {
         format!("{} word {}", name(&self.files[at].path), place - start)
     }
 
-    /// The first file with which the row so far is refused, if there is one. Once refused, a row of whole bands stays so however many
-    /// follow; where a band is split over files, that is not so, and another file may be told.
+    /// The first file with which the row so far is refused; none where the bands of all files are accepted. Once refused, a row of whole
+    /// bands stays so however many follow; where a band is split over files, that is not so, and another file may be told.
     fn first_refused(&self) -> Option<&BandFile> {
         let accepted = |file: &BandFile| dofnihet::header_of_bands(&self.words[..file.end]).is_ok();
-        self.files.get(self.files.partition_point(accepted))
+        let (last, others) = self.files.split_last().filter(|(last, _)| !accepted(last))?;
+        Some(others.get(others.partition_point(accepted)).unwrap_or(last))
     }
 }
 

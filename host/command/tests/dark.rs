@@ -109,3 +109,12 @@ fn every_band_comes_first() {
     refused(&["tally", "--bands", &top, &bottom], &[], &line);
     refused(&["map", "--bands", &top, &bottom, "-"], &[], &line);
 }
+
+/// No file is told, not even where one ends within a band: the row is refused there, and accepted again behind the next file.
+#[test]
+fn a_band_split_over_two_files() {
+    let (folder, top, _) = two_bands("dark_split", row(16, 1), row(16, 0));
+    let bottom = bytes32(&row(16, 0));
+    let (first, second) = (folder.file("first", &bottom[..40]), folder.file("second", &bottom[40..]));
+    refused(&["tally", "--bands", &top, &first, &second], &[], DARK);
+}

@@ -215,7 +215,8 @@ pub fn tally_of_bands(bands: &[u32]) -> Result<Tally, Refusal> {
     tally_told(raw::tally_of_bands(bands))
 }
 
-/// Leaves the levels of the tall page that bands are ([`header_of_bands`]), three bytes a pixel, in the output's front.
+/// Leaves the levels of the tall page that bands are ([`header_of_bands`]), three bytes a pixel, in the output's front. A dark page is
+/// refused, as [`tally_of_bands`] refuses it.
 pub fn map_bands(bands: &[u32], output: &mut [u8]) -> Result<(), Refusal> {
     done(raw::map_bands(bands, output))
 }

@@ -5,8 +5,8 @@ use mathlib.Core.Path.{_≡_}
 use native.Mathlib.Omega.{arith}
 use mathlib.Core.List.{[], _∷_}
 use Rattle.word.specs.loops.Walks.{pixelAt}
-use Rattle.body.proofs.Laws.{pixel-codes}
-use Rattle.light.proofs.Counting.{lit-few, counting, counting-none, counting-next, counting-most, counting-all}
+use Rattle.body.proofs.Laws.{lit-few, pixel-codes}
+use Rattle.light.proofs.Counting.{counting, counting-none, counting-next, counting-most, counting-all}
 use Rattle.light.proofs.lit_up_to.Statement.{statement}
 use Rattle.light.proofs.lit_up_to.Tie as tie
 
@@ -58,5 +58,8 @@ pub lit-up-to-spec : {M : Type 1} → statement M
 lit-up-to-spec =
     tie.close
     (tie.spec
-    Inv-loop μ-loop loop-holds returns (λ c. omega (arith, few (c .before))) (λ c. omega (arith, few (c .before))) (λ c. search needs) (λ c. search needs) (λ c. omega (arith, few (c .before .before))) (λ c. search needs)
-    (λ c. search needs) (λ c. omega (arith, few (c .before .before .before))) (λ c. search needs) lit-one-requires (λ c. omega (arith, loop-again c .1, c .before .before .before .before .before .before .before .before .fits)) (λ c. search needs) (λ c. search needs) loop-again returns-2)
+    Inv-loop μ-loop loop-holds returns (λ c. omega (arith, few (c .before))) (λ c. omega (arith, few (c .before))) (λ c. search needs)
+    (λ c. search needs) (λ c. omega (arith, few (c .before .before))) (λ c. search needs) (λ c. search needs)
+    (λ c. omega (arith, few (c .before .before .before))) (λ c. search needs) lit-one-requires
+    (λ c. omega (arith, loop-again c .1, c .before .before .before .before .before .before .before .before .fits)) (λ c. search needs)
+    (λ c. search needs) loop-again returns-2)

@@ -1,20 +1,18 @@
 -- `average::average::average_of` meets its contract. Assumes nothing.
-use mathlib.Core.Path.{_≡_, _∙_, ap}
+use mathlib.Core.Path.{_≡_}
 use mir.Syntax.{w64}
 use mir.Val.{toZ, ofZ}
-use mir.Facts.{toZ-ofZ}
 use borrow.Author.Needs.{needs, sfits-of}
 use borrow.Author.Tests.{ne-eqb}
 use Rattle.refusal.proofs.Laws.{also}
 use Rattle.average.specs.Averages.{floorDiv, averageOf, averageTold}
+use Rattle.average.proofs.Signed.{quotient-held}
 use Rattle.average.proofs.average.average_of.Statement.{statement}
 use Rattle.average.proofs.average.average_of.Tie as tie
 
 got : (c : tie.After-floor-div) → let a = c .before .before .args in
     toZ w64 (ofZ w64 (c .floor-div .result)) ≡ floorDiv (a .sum) (a .count)
-got c =
-    let s = c .before .before in
-    toZ-ofZ (sfits-of (c .floor-div .ok)) ∙ c .floor-div .ensures ∙ ap (λ z. floorDiv z (s .args .count)) (toZ-ofZ (s .fits .sum))
+got c = quotient-held _ (c .before .before .fits .sum) (sfits-of (c .floor-div .ok)) (c .floor-div .ensures)
 
 returns : tie.Need-returns
 unfolding averageOf

@@ -12,12 +12,12 @@ use Rattle.number.specs.declared.ratio.Stored.{Stored}
 use Rattle.average.specs.Averages.{floorDiv, floorMod, storedAverage}
 use Rattle.average.proofs.Averages.{exponent-range}
 use Rattle.average.proofs.Division.{floor-mod-lt}
+use Rattle.average.proofs.Signed.{quotient-held}
 use Rattle.average.proofs.average.stored_average.Statement.{statement}
 use Rattle.average.proofs.average.stored_average.Tie as tie
 
 got-q : (c : tie.After-floor-div) → toZ w64 (ofZ w64 (c .floor-div .result)) ≡ floorDiv (c .before .args .steps) 256
-got-q c =
-    toZ-ofZ (sfits-of (c .floor-div .ok)) ∙ c .floor-div .ensures ∙ ap (λ z. floorDiv z 256) (toZ-ofZ (c .before .fits .steps))
+got-q c = quotient-held 256 (c .before .fits .steps) (sfits-of (c .floor-div .ok)) (c .floor-div .ensures)
 
 got-f : (c : tie.After-floor-mod) → c .floor-mod .result ≡ floorMod (c .before .before .args .steps) 256
 got-f c = c .floor-mod .ensures ∙ ap (λ z. floorMod z 256) (toZ-ofZ (c .before .before .fits .steps))

@@ -3,13 +3,14 @@ use borrow.Author.Needs.{needs}
 use mathlib.Core.Path.{sym, _∙_}
 use native.Mathlib.Omega.{arith}
 use Rattle.refusal.specs.Verdicts.{require, andThen}
+use Rattle.refusal.proofs.Laws.{and-refused}
 use Rattle.bands.specs.Checks.{checkBand}
 use Rattle.bands.proofs.check.check_band.Statement.{statement}
 use Rattle.bands.proofs.check.check_band.Tie as tie
 
 returns : tie.Need-returns
-unfolding checkBand andThen
-returns c = let e = c .before .before .check-at .ensures in rw (sym e ∙ c .enum-told2 .given .1) (c .enum-told2 .given .1)
+unfolding checkBand
+returns c = and-refused _ (c .before .before .check-at .ensures) (c .enum-told2 .given .1)
 
 joins-bands-requires : tie.Need-joins-bands-requires
 joins-bands-requires c κs = rw (c .header-fields .ensures) (c .before .before .before .before .before .before .pre .1, omega arith)

@@ -6,7 +6,7 @@ use denote.Ref.{now}
 use Rattle.page.proofs.Laws.{left-alone, filled}
 use Rattle.bands.specs.Cutting.{tallStrip}
 use Rattle.bands.specs.Answers.{joinedLevels}
-use Rattle.bands.proofs.Averages.{joined-tally, joined-lit, joined-tone}
+use Rattle.bands.proofs.Joined.{joined-tally, joined-lit, joined-tone}
 use Rattle.bands.proofs.Levels.{Fits, map-limits, indices-left, levels-left}
 use Rattle.bands.proofs.Bounds.{map-promise}
 use Rattle.bands.proofs.map.map.Statement.{statement}

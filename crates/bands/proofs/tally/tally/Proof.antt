@@ -5,7 +5,7 @@ use denote.Ref.{now}
 use Rattle.refusal.specs.declared.Verdict.the-variants.{Accepted}
 use Rattle.page.proofs.Laws.{bounded}
 use Rattle.bands.specs.Checks.{checkBands}
-use Rattle.bands.proofs.Averages.{joined-tally, answered, refused}
+use Rattle.bands.proofs.Joined.{joined-tally, answered, refused}
 use Rattle.bands.proofs.Bounds.{tally-promise}
 use Rattle.bands.proofs.tally.tally.Statement.{statement}
 use Rattle.bands.proofs.tally.tally.Tie as tie
