@@ -10,7 +10,7 @@ use lib.Signed.{_≤ℤ_, leZ-yes}
 use borrow.Author.Tests.{eqb-true, eqb-false, ne-eqb}
 use Rattle.number.proofs.Laws.{same-difference, sub-pos, sub-plus, sub-least, sub-most, lowered}
 use Rattle.number.specs.declared.ratio.Stored.{Stored}
-use Rattle.average.specs.Averages.{floorDiv, floorMod, storedAverage, averageOf, IsAverage, IsStoredAverage}
+use Rattle.average.specs.Averages.{floorDiv, floorMod, storedAverage, averageSteps, averageOf, IsAverage, IsStoredAverage}
 use Rattle.average.specs.loops.Sums.{IsSum, HasAverage}
 use Rattle.average.specs.declared.average.Average.the-variants.{Absent, Present}
 use Rattle.average.specs.Tables.{rootOf}
@@ -105,7 +105,7 @@ module _ (n : ℕ) (z : ℤ) where
           let same : floorDiv z n ≡ A = cc in
           record { lit = pos-of-ne-zero (eqb-false n 0 q); steps = same; stored = cc }
 
-  pub present : 0 < n → averageOf n z ≡ Present (floorDiv z n) (storedAverage (floorDiv z n))
+  pub present : 0 < n → averageOf n z ≡ Present (averageSteps n z) (storedAverage (averageSteps n z))
   unfolding averageOf
   present some = rw (ne-eqb n 0 (λ e. omega arith))
 

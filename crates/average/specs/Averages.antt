@@ -34,10 +34,13 @@ storedAverage A =
     (record { exponent = natAbs (floorDiv A 256 +ℤ pos 128); mantissa = 255 })
     (record { exponent = natAbs (floorDiv A 256 +ℤ pos 129); mantissa = rootOf (floorMod A 256) })
 
--- "Average A: the sum of steps over the N lit pixels, divided by N", with the stored average. "If N = 0 .. the average is reported
--- as absent".
+-- "Average A: the sum of steps over the N lit pixels, divided by N"
+abbrev pub averageSteps : (count : ℕ) (sum : ℤ) → ℤ
+averageSteps count sum = floorDiv sum count
+
+-- with the stored average. "If N = 0 .. the average is reported as absent".
 unfoldable pub averageOf : (count : ℕ) (sum : ℤ) → Average
-averageOf count sum = cond (eqb count 0) Absent (Present (floorDiv sum count) (storedAverage (floorDiv sum count)))
+averageOf count sum = cond (eqb count 0) Absent (Present (averageSteps count sum) (storedAverage (averageSteps count sum)))
 
 -- in numbers: whether there is an average, A, E and M; all are 0 where there is none
 abbrev pub averageValues : Average → List ℤ

@@ -3,7 +3,7 @@ ghost use mathlib.Core.Path.{_≡_};
 ghost use Prim.Native.Nat.{_<_};
 ghost use lib.IntN.{pos, natAbs, _+ℤ_};
 ghost use lib.Signed.{_≤ℤ_};
-ghost use Rattle.average.specs.Averages.{floorDiv, storedAverage, averageOf, IsAverage, averageTold};
+ghost use Rattle.average.specs.Averages.{storedAverage, averageSteps, averageOf, IsAverage, averageTold};
 ghost use Rattle.average.specs.loops.Sums.{HasAverage};
 use crate::floor::floor_div;
 use crate::floor::floor_mod;
@@ -46,7 +46,7 @@ fn stored_average(steps: i64) -> Stored
 // The stored average of one luminance or more, whose steps add up to `sum`.
 pub fn lit_average(count: u64, sum: i64) -> Stored
     requires { ⌜ (0 < count) × HasAverage count sum ⌝ }
-    ensures { λ r. ⌜ r ≡ storedAverage (floorDiv sum count) ⌝ }
+    ensures { λ r. ⌜ r ≡ storedAverage (averageSteps count sum) ⌝ }
 {
     stored_average(floor_div(sum, count))
 }

@@ -25,7 +25,7 @@ use Rattle.luminance.specs.Pixels.{IsPixel}
 use Rattle.tone.proofs.Laws.{level-bound}
 use Rattle.page.specs.declared.tally.TallyOrRefusal.{TallyOrRefusal}
 use Rattle.page.specs.declared.tally.TallyOrRefusal.the-variants.{Refuses}
-use Rattle.page.specs.Tallying.{stripLuminances, stripTally, averageSteps, tallyUnder, tallyTold, tallyStrip}
+use Rattle.page.specs.Tallying.{stripLuminances, stripTally, tallySteps, tallyUnder, tallyTold, tallyStrip}
 use Rattle.body.specs.Levels.{levelsUnder}
 use Rattle.body.proofs.Laws.{storedLuminance, lit-luminance, lit-count, every-luminance}
 use Rattle.page.specs.Checks.{checkTally}
@@ -57,17 +57,17 @@ module _ (t : Tone) (tone : IsTone t) where
 
 module _ (s : List ℕ) (ok : checkTally s ≡ Accepted) where
   -- so that it has an average
-  strip-present : averageOf (stripTally s .count) (stripTally s .sum) ≡ Present (averageSteps (stripTally s)) (storedAverage (averageSteps (stripTally s)))
+  strip-present : averageOf (stripTally s .count) (stripTally s .sum) ≡ Present (tallySteps (stripTally s)) (storedAverage (tallySteps (stripTally s)))
   strip-present = present _ _ (rw (lit-count (stripPixels s)) (tally-lit s ok))
 
-  mean-half : MeanHalf (stripPixels s) (averageSteps (stripTally s))
+  mean-half : MeanHalf (stripPixels s) (tallySteps (stripTally s))
   mean-half =
       record {
         count = lit-count (stripPixels s);
         mean = mean-bound (stripLuminances s) (every-luminance (stripPixels s) (strip-valid s (tally-whole s ok))) _ _ strip-present;
       }
 
-  level-half : (output : List ℕ) → LevelHalf (headerFields s) (stripPixels s) (averageSteps (stripTally s)) (onto (stripLevels s) output)
+  level-half : (output : List ℕ) → LevelHalf (headerFields s) (stripPixels s) (tallySteps (stripTally s)) (onto (stripLevels s) output)
   level-half output =
       let whole = tally-whole s ok in
       record { each = levels-bound _ (strip-tone s whole (tally-lit s ok)) (stripPixels s) _ (strip-valid s whole) }
@@ -126,7 +126,7 @@ unfolding tallyStrip
 demand-three s output e =
     let ok = map-tally s (length output) e in
     record {
-      A = averageSteps (stripTally s);
+      A = tallySteps (stripTally s);
       reported = rw (ok, strip-present s ok);
       bounds = record { mean = mean-half s ok; levels = level-half s ok output };
     }

@@ -25,7 +25,7 @@ use Rattle.page.specs.declared.tally.TallyOrRefusal.{TallyOrRefusal}
 use Rattle.page.specs.declared.tally.TallyOrRefusal.the-variants.{Holds, Refuses}
 use Rattle.body.specs.Luminances.{luminancesOf, litCount}
 use Rattle.page.specs.Checks.{checkMap}
-use Rattle.page.specs.Tallying.{averageSteps, stripTally, tallyStrip}
+use Rattle.page.specs.Tallying.{tallySteps, stripTally, tallyStrip}
 use Rattle.average.specs.Claims.{HasExtremes, MeanBound}
 use Rattle.page.specs.Mapping.{toneOf, stripLevels}
 
@@ -73,8 +73,8 @@ HasLight ps = 0 < litCount ps
 pub record TallyHolds (ps : List Pixel) (t : Tally) (average : Average) : Type 0 where
   pub lit : HasLight ps
   pub count : t .count ≡ litCount ps
-  pub present : average ≡ Present (averageSteps t) (storedAverage (averageSteps t))
-  pub mean : MeanHalf ps (averageSteps t)
+  pub present : average ≡ Present (tallySteps t) (storedAverage (tallySteps t))
+  pub mean : MeanHalf ps (tallySteps t)
   pub extremes : ExtremesOn ps (t .extremes)
 
 abbrev pub TallyPromise : (s : List ℕ) → TallyOrRefusal → Type 0
@@ -84,7 +84,7 @@ TallyPromise s (Refuses r i) = Unit
 -- "the second wherever mapping does"
 abbrev pub MapPromise : (s : List ℕ) → Verdict → (bytes : List ℕ) → Type 0
 MapPromise s Accepted bytes =
-    HasLight (stripPixels s) × LevelHalf (headerFields s) (stripPixels s) (averageSteps (stripTally s)) bytes
+    HasLight (stripPixels s) × LevelHalf (headerFields s) (stripPixels s) (tallySteps (stripTally s)) bytes
 MapPromise s (Refused r i) bytes = Unit
 
 -- ---- both together, of every page that both calls accept; what mapping accepts, the tally accepts

@@ -10,7 +10,7 @@ use Rattle.average.specs.declared.tally.Tally.{Tally}
 use Rattle.average.specs.Averages.{storedAverage}
 use Rattle.tone.specs.declared.tone.Tone.{Tone}
 use Rattle.body.specs.Levels.{levelsUnder}
-use Rattle.page.specs.Tallying.{averageSteps, stripTally}
+use Rattle.page.specs.Tallying.{tallySteps, stripTally}
 
 -- what a page is mapped under: its key, and a stored average
 abbrev pub toneOf : Header → (average : Stored) → Tone
@@ -18,7 +18,7 @@ toneOf h average = record { key = h .key; average = average }
 
 -- that of a tally
 abbrev pub toneUnder : Header → Tally → Tone
-toneUnder h t = toneOf h (storedAverage (averageSteps t))
+toneUnder h t = toneOf h (storedAverage (tallySteps t))
 
 -- the level bytes of an accepted strip
 abbrev pub stripLevels : List ℕ → List ℕ

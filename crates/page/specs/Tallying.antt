@@ -10,7 +10,7 @@ use Rattle.refusal.specs.declared.Verdict.the-variants.{Accepted, Refused}
 use Rattle.refusal.specs.Told.{Told, holding, refusing}
 use Rattle.strip.specs.Reading.{stripPixels}
 use Rattle.average.specs.declared.tally.Tally.{Tally}
-use Rattle.average.specs.Averages.{floorDiv, averageOf, averageValues}
+use Rattle.average.specs.Averages.{averageSteps, averageOf, averageValues}
 use Rattle.average.specs.Tallies.{tallyOf, extremesValues}
 use Rattle.body.specs.Luminances.{luminancesOf}
 use Rattle.page.specs.Checks.{checkTally}
@@ -23,9 +23,9 @@ stripLuminances s = luminancesOf (stripPixels s)
 abbrev pub stripTally : List ℕ → Tally
 stripTally s = tallyOf (stripLuminances s)
 
--- "A", the steps of the average, of a tally with a lit pixel
-abbrev pub averageSteps : Tally → ℤ
-averageSteps t = floorDiv (t .sum) (t .count)
+-- the A of a tally with a lit pixel
+abbrev pub tallySteps : Tally → ℤ
+tallySteps t = averageSteps (t .count) (t .sum)
 
 abbrev pub tallyUnder : Verdict → Tally → TallyOrRefusal
 tallyUnder Accepted t = Holds t (averageOf (t .count) (t .sum))
