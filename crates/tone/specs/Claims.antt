@@ -1,6 +1,7 @@
--- Claims about the steps of one pixel: where the scaled luminance lies, that the steps store by the rule, that no half is rounded below 255,
--- and the second half of demand 3, a level against the exact value. Assumes nothing.
--- Proved as `is-scaled` (proofs/Scaled.antt), `no-half` (proofs/Halves.antt), `steps-store` and `level-bound` (proofs/PixelBounds.antt).
+-- Claims about the steps of one pixel: where the scaled luminance lies, that the steps store by the rule, what step 5 comes to far from 1,
+-- that no half is rounded below 255, and the second half of demand 3, a level against the exact value. Assumes nothing.
+-- Proved as `is-scaled` (proofs/Scaled.antt), `dark-is-itself`, `bright-is-white` (proofs/Displays.antt), `no-half` (proofs/Halves.antt),
+-- `steps-store` and `level-bound` (proofs/PixelBounds.antt).
 use mathlib.Core.Path.{_≡_}
 use mathlib.Core.Logic.{_⊎_}
 use Prim.Native.Nat.{ℕ, _+_, _*_, _≤_, _<_, min}
@@ -12,7 +13,7 @@ use Rattle.number.specs.declared.ratio.Stored.{Stored}
 use Rattle.luminance.specs.Pixels.{IsPixel, exactLuminance, luminanceOf, IsLuminance}
 use Rattle.luminance.specs.declared.pixel.Luminance.{Luminance}
 use Rattle.tone.specs.declared.tone.Tone.{Tone}
-use Rattle.tone.specs.Levels.{IsTone, keyOverAverage, scaledOf, reinhard, displayUnder, mappedLevel}
+use Rattle.tone.specs.Levels.{IsTone, keyOverAverage, scaledOf, reinhard, displayOf, displayUnder, mappedLevel}
 
 -- ---- the scaled luminance, under every key and stored average: "E is 1 to 246."
 
@@ -37,6 +38,16 @@ pub record StoredSteps (t : Tone) (p : Pixel) (y : Stored) : Type 0 where
 
 abbrev pub StepsStore : Type 0
 StepsStore = (p : Pixel) → IsPixel p → (y : Stored) → luminanceOf p ≡ Luminance.Lit y → (t : Tone) → IsTone t → StoredSteps t p y
+
+-- ---- step 5 by source document 004's cases (2026-04): "E below 114, E above 152, and between. Below, the outcome is the stored scaled
+-- luminance itself; above, it is (128,255); both are proved as laws of step 5's own rule."
+
+abbrev pub DarkIsItself : Type 0
+DarkIsItself = (l : Stored) → l .exponent < 114 → IsMantissa (l .mantissa) → displayOf reinhard l ≡ l
+
+abbrev pub BrightIsWhite : Type 0
+BrightIsWhite = (l : Stored) → 152 < l .exponent → IsMantissa (l .mantissa)
+    → displayOf reinhard l ≡ record { exponent = 128; mantissa = 255 }
 
 -- ---- "to the nearest whole number, halves up, at most 255": a half comes out only where the level is 255 whichever way it is rounded
 

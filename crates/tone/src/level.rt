@@ -30,26 +30,24 @@ fn shift_left(v: u64, s: u64) -> u64
     v << s
 }
 
-// The exponent of 1 in units of 2^-137.
-const ONE: u64 = 137;
+// Step 5 goes by the cases of source document 004, section 3.3, in the stored exponent E of L: (i) 136 - E > 22, that is E below 114; (ii)
+// 136 - E < -16, E above 152; (iii) between. L / (1 + L) is stored as L itself in (i), as (128,255) in (ii), and divided in (iii), by 004 in
+// fixed point of 32 bits, here exactly.
+const LEAST_DIVIDED: u8 = 114;
 
-// L / (1 + L) of L = value * 2^exponent units, divided in 64-bit numbers.
+const GREATEST_DIVIDED: u8 = 152;
+
+// 1 in units of 2^(114 - 137), of which L is a whole number from exponent 114 on.
+const ONE: u64 = 8388608;
+
+// L / (1 + L) of L = value * 2^exponent units of 2^-137, divided in 64-bit numbers.
 fn divided(value: u64, exponent: u64) -> Stored
-    requires { ⌜ (257 ≤ value) × (value ≤ 511) × (74 ≤ exponent) × (exponent ≤ 191) ⌝ }
+    requires { ⌜ (257 ≤ value) × (value ≤ 511) × (114 ≤ exponent) × (exponent ≤ 152) ⌝ }
     ensures { λ r. ⌜ r ≡ storedOf (reinhard (value * 2 ^ exponent over unit)) ⌝ }
 {
-    if exponent <= ONE {
-        let one = shift_left(1, ONE - exponent);
-        return stored_ratio(value, one + value, 137);
-    }
-    let whole = shift_left(value, exponent - ONE);
-    stored_ratio(whole, 1 + whole, 137)
+    let whole = shift_left(value, exponent - LEAST_DIVIDED as u64);
+    stored_ratio(whole, ONE + whole, 137)
 }
-
-// Outside of these exponents, L / (1 + L) is stored as L itself, or as (128,255).
-const LEAST_DIVIDED: u8 = 74;
-
-const GREATEST_DIVIDED: u8 = 191;
 
 // Step 5: L / (1 + L).
 fn display_luminance(scaled: Stored) -> Stored

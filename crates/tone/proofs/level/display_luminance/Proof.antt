@@ -1,4 +1,5 @@
 -- `tone::level::display_luminance` meets its contract. Assumes nothing.
+use mathlib.Core.Path.{sym}
 use native.Mathlib.Omega.{arith}
 use borrow.Author.Needs.{needs}
 use Rattle.tone.proofs.Displays.{dark, bright}
@@ -6,10 +7,10 @@ use Rattle.tone.proofs.level.display_luminance.Statement.{statement}
 use Rattle.tone.proofs.level.display_luminance.Tie as tie
 
 returns : tie.Need-returns
-returns c = dark _ (omega arith) (search needs)
+returns c = sym (dark _ (omega arith) (search needs))
 
 returns-2 : tie.Need-returns-2
-returns-2 c = bright _ (omega arith) (search needs)
+returns-2 c = sym (bright _ (omega arith) (search needs))
 
 pub display-luminance-spec : {M : Type 1} → statement M
 display-luminance-spec =
