@@ -19,6 +19,7 @@ pub mod program;
 pub mod random;
 pub mod rounds;
 pub mod source_faults;
+pub mod steps;
 pub mod strip_faults;
 pub mod values;
 

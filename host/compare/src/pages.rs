@@ -204,7 +204,7 @@ pub(crate) fn wide(random: &mut Random) -> u16 {
 }
 
 /// A lit channel with an exponent at most so far from the base.
-fn lit(random: &mut Random, base: u64, distance: u64) -> u16 {
+pub fn lit(random: &mut Random, base: u64, distance: u64) -> u16 {
     let exponent = random.between(base - distance, base + distance);
     stored(exponent.clamp(72, 184), random.between(128, 255))
 }

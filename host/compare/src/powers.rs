@@ -4,9 +4,9 @@
 
 use crate::pages::stored;
 use crate::random::Random;
+use crate::steps::WEIGHTS;
 use std::sync::OnceLock;
 
-const WEIGHTS: [u64; 3] = [27, 67, 6];
 const SHIFT: u64 = 12;
 /// Fractions of a unit that the third channel is worked out in.
 const FINE: i64 = 40;
@@ -103,26 +103,18 @@ pub fn pixel(random: &mut Random) -> [u16; 3] {
 #[cfg(test)]
 mod tests {
     use super::*;
-
-    /// A hundred times the luminance, in half units of exponent 0.
-    fn sum(pixel: [u16; 3]) -> u128 {
-        let part = |i: usize| match pixel[i] {
-            0 => 0,
-            channel => ((WEIGHTS[i] * (2 * (channel as u64 & 0xFF) + 1)) as u128) << ((channel >> 8) - 72),
-        };
-        part(0) + part(1) + part(2)
-    }
+    use crate::steps::hundredfold;
 
     /// Alone a pair is at or below the power; the third that fits leaves it there, and the next one does not.
     #[test]
     fn thirds_decide() {
-        let power = |pixel| sum(pixel).div_ceil(25).next_power_of_two();
+        let power = |pixel| hundredfold(pixel).div_ceil(25).next_power_of_two();
         for pair in pairs() {
             let thirds = pair.thirds(128);
             let alone = power(pair.pixel(128, 0));
             match thirds[..] {
                 [black, least] => {
-                    assert_eq!(sum(pair.pixel(128, black)), 25 * alone);
+                    assert_eq!(hundredfold(pair.pixel(128, black)), 25 * alone);
                     assert_eq!(power(pair.pixel(128, least)), 2 * alone);
                 }
                 [_, _, fit, above] => {

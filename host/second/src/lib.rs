@@ -24,7 +24,8 @@ use bands::Bands;
 use refusal::{require, DARK_PAGE};
 use std::ops::Range;
 
-/// Which of the later changes hold; 2026-01, darkest and brightest in the tally, and 2026-02, bands, always do.
+/// Which of the later changes hold; 2026-01, darkest and brightest in the tally, and 2026-02, bands, always do. 2026-04,
+/// display luminance by the published cases, changes no answer and has no switch.
 #[derive(Clone, Copy, Debug)]
 pub struct Rules {
     /// 2026-03: tallying and mapping refuse a page when sixteen times its lit pixels is below its pixel count.
@@ -38,7 +39,7 @@ pub struct Rules {
 }
 
 impl Rules {
-    /// What is built now: document 01 with 2026-01, 2026-02 and 2026-03.
+    /// What is built now: document 01 with 2026-01 to 2026-04, the last of which changes no answer.
     pub const BUILT: Rules = Rules {
         dark_page: true,
         white_word: false,

@@ -233,3 +233,62 @@ pub fn levels(pixels: impl Iterator<Item = Pixel>, header: &Header, average: Opt
     }
     levels
 }
+
+#[cfg(test)]
+mod tests {
+    use super::*;
+
+    /// 1 as it is stored.
+    const FULL: Number = Number {
+        exponent: 128,
+        mantissa: 255,
+    };
+
+    /// Every stored number that a scaled luminance can be, "E is 1 to 246", and its display luminance by step 5's own rule.
+    fn displays() -> impl Iterator<Item = (Number, Number)> {
+        let scaled = (1..=246).flat_map(|exponent| (128..=255).map(move |mantissa| Number { exponent, mantissa }));
+        scaled.map(|scaled| (scaled, display_luminance(scaled, None)))
+    }
+
+    /// Change 2026-04: "E below 114, E above 152, and between. Below, the outcome is the stored scaled luminance itself;
+    /// above, it is (128,255)".
+    #[test]
+    fn published_cases() {
+        for (scaled, display) in displays() {
+            match scaled.exponent {
+                ..114 => assert_eq!(display, scaled),
+                114..=152 => (),
+                153.. => assert_eq!(display, FULL, "{scaled:?}"),
+            }
+        }
+    }
+
+    /// The outcome is the scaled luminance itself where L/(1+L) · 2^(136−E) = (M + 1/2)/(1+L) lies above M, that is, where
+    /// M(2M+1) < 2^(136−E); they are never equal, as 2M + 1 is odd. With 255 · 511 < 2^17, 180 · 361 < 2^16 < 181 · 363
+    /// and 2^15 < 128 · 257, it is so for all M up to E 119, for M up to 180 at E 120, and nowhere above.
+    #[test]
+    fn reach_of_the_scaled_luminance() {
+        for (scaled, display) in displays() {
+            let itself = match scaled.exponent {
+                ..120 => true,
+                120 => scaled.mantissa <= 180,
+                121.. => false,
+            };
+            assert_eq!(display == scaled, itself, "{scaled:?}");
+        }
+    }
+
+    /// The outcome is (128,255) where 256 · L/(1+L) is not below 255, that is, where L = (2M+1) · 2^(E−137) ≥ 255. As
+    /// 2M + 1 is 257 to 511, it is so for all M from E 137 on, for M = 255 alone at E 136, and nowhere below.
+    #[test]
+    fn reach_of_full_display() {
+        for (scaled, display) in displays() {
+            let full = match scaled.exponent {
+                ..136 => false,
+                136 => scaled.mantissa == 255,
+                137.. => true,
+            };
+            assert_eq!(display == FULL, full, "{scaled:?}");
+        }
+    }
+}
