@@ -30,9 +30,7 @@ fn shift_left(v: u64, s: u64) -> u64
     v << s
 }
 
-// Step 5 goes by the cases of source document 004, section 3.3, in the stored exponent E of L: (i) 136 - E > 22, that is E below 114; (ii)
-// 136 - E < -16, E above 152; (iii) between. L / (1 + L) is stored as L itself in (i), as (128,255) in (ii), and divided in (iii), by 004 in
-// fixed point of 32 bits, here exactly.
+// Step 5 divides where L has these exponents, the middle of three cases.
 const LEAST_DIVIDED: u8 = 114;
 
 const GREATEST_DIVIDED: u8 = 152;
@@ -49,7 +47,9 @@ fn divided(value: u64, exponent: u64) -> Stored
     stored_ratio(whole, ONE + whole, 137)
 }
 
-// Step 5: L / (1 + L).
+// Step 5: L / (1 + L), by the cases of source document 004, section 3.3, in the stored exponent E of L: (i) 136 - E > 22, that is E below
+// 114; (ii) 136 - E < -16, E above 152; (iii) between. What 004 leaves out of the denominator in (i) and (ii) makes no difference to what is
+// stored, L itself and (128,255). In (iii) it approximates, in fixed point of 32 bits; here the quotient is exact.
 fn display_luminance(scaled: Stored) -> Stored
     requires { ⌜ IsScaled scaled ⌝ }
     ensures { λ r. ⌜ r ≡ displayOf reinhard scaled ⌝ }
