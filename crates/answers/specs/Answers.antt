@@ -1,12 +1,14 @@
 -- What crosses to C: a page's header as numbers, and answers as structs of numbers. Assumes nothing.
 -- Each answer is the one that its enum's definition gives in numbers, field by field; a field that an answer leaves free is 0.
-use Prim.Native.Nat.{ℕ}
+use Prim.Native.Nat.{ℕ, zero, suc}
 use mathlib.Core.Path.{_≡_}
 use mathlib.Core.List.{List}
 use Rattle.refusal.specs.declared.Outcome.{Outcome}
 use Rattle.refusal.specs.declared.Verdict.{Verdict}
 use Rattle.refusal.specs.Verdicts.{reportOf}
 use Rattle.refusal.specs.Output.{after}
+use Rattle.white.specs.declared.White.{White}
+use Rattle.white.specs.declared.White.the-variants.{Absent, Tenths}
 use Rattle.word.specs.declared.header.Header.{Header}
 use Rattle.strip.specs.declared.read.HeaderOrRefusal.{HeaderOrRefusal}
 use Rattle.strip.specs.Reading.{headerTold}
@@ -23,9 +25,14 @@ use Rattle.answers.specs.declared.rows.RowAnswer.{RowAnswer}
 use Rattle.answers.specs.declared.steps.StepAnswer.{StepAnswer}
 use Rattle.answers.specs.declared.tallies.TallyAnswer.{TallyAnswer}
 
+-- the white point that two numbers of C stand for: none where the first is 0, whatever the second; else the second
+unfoldable pub whiteGiven : (present W : ℕ) → White
+whiteGiven zero W = Absent
+whiteGiven (suc n) W = Tenths W
+
 -- the header that a page's numbers stand for
 unfoldable pub headerOf : Page → Header
-headerOf p = record { width = p .width; height = p .height; key = p .key }
+headerOf p = record { width = p .width; height = p .height; key = p .key; white = whiteGiven (p .«white_present») (p .white) }
 
 -- a call with an output: what it tells, and what the output holds then, are both its verdict's
 pub record Reports (verdict : Verdict) (front old : List ℕ) (told : Outcome) (new : List ℕ) : Type 0 where
@@ -42,6 +49,8 @@ headerAnswer a =
       width = valueAt t 0;
       height = valueAt t 1;
       key = valueAt t 2;
+      «white_present» = valueAt t 3;
+      white = valueAt t 4;
     }
 
 -- where a row stands, or its refusal

@@ -1,8 +1,8 @@
 -- What an accepted row of bands keeps to. Assumes nothing.
 use Prim.Native.Nat.{ℕ, _+_, _<_}
-use mathlib.Core.Path.{_≡_, refl, sym, ap, _∙_}
+use mathlib.Core.Path.{_≡_, refl, sym, ap, ap₂, _∙_}
 use mathlib.Core.Bool.{true}
-use mathlib.Core.List.{List, [], _∷_, flatMap}
+use mathlib.Core.List.{List, [], _∷_, _++_, flatMap}
 use native.Mathlib.Nat.{zero-add}
 use native.Mathlib.Omega.{arith}
 use borrow.Author.Tests.{eqb-true, leb-true}
@@ -12,16 +12,18 @@ use Rattle.refusal.specs.declared.Verdict.the-variants.{Accepted}
 use Rattle.refusal.proofs.Laws.{require-passed, and-passed}
 use Rattle.word.specs.declared.header.Header.{Header}
 use Rattle.word.specs.Words.{sizeFits}
-use Rattle.word.proofs.Limits.{both-true}
+use Rattle.white.specs.declared.White.{White}
+use Rattle.white.proofs.Limits.{both-true, white-same}
 use Rattle.strip.specs.Checks.{headerFields}
 use Rattle.strip.specs.Reading.{stripPixels}
 use Rattle.strip.proofs.Limits.{Whole, whole-strip}
 use Rattle.average.specs.declared.tally.Tally.{Tally}
+use Rattle.average.specs.Averages.{storedAverage}
 use Rattle.average.specs.Tallies.{tallyOf, join}
 use Rattle.body.specs.Luminances.{luminancesOf}
 use Rattle.body.specs.Levels.{levelsUnder}
 use Rattle.body.proofs.Laws.{tally-join, levels-append}
-use Rattle.page.specs.Tallying.{stripLuminances}
+use Rattle.page.specs.Tallying.{stripLuminances, tallySteps}
 use Rattle.page.specs.Mapping.{toneUnder}
 use Rattle.series.specs.Series.{Standing, seriesOf}
 use Rattle.series.proofs.Laws.{standing-accepted, series-next}
@@ -36,6 +38,7 @@ pub record IsBand (first : Header) (b : Standing) : Type 0 where
   pub whole : Whole (b .strip)
   pub width : bandHeader b .width ≡ first .width
   pub key : bandHeader b .key ≡ first .key
+  pub white : bandHeader b .white ≡ first .white
 
 pub record Joined (first : Header) (above : ℕ) (b : Standing) : Type 0 where
   pub band : IsBand first b
@@ -46,12 +49,14 @@ unfolding checkBand joins
 band-accepted first above b e =
     let a = and-passed _ _ e in
     let p = both-true _ _ (require-passed _ _ _ _ (a .1) .0) in
-    let q = both-true _ _ (p .0) in
+    let o = both-true _ _ (p .0) in
+    let q = both-true _ _ (o .0) in
     record {
       band = record {
         whole = whole-strip _ (standing-accepted b (a .0));
         width = eqb-true _ _ (q .0);
         key = eqb-true _ _ (q .1);
+        white = white-same _ _ (o .1);
       };
       fits = p .1;
     }
@@ -104,11 +109,13 @@ tallies-of [] = refl
 tallies-of (b ∷ bs) =
     ap (join (tallyOf (stripLuminances (b .strip)))) (tallies-of bs) ∙ sym (tally-join (stripPixels (b .strip)) (joinedPixels bs))
 
--- bands of one key are mapped as their pixels together are
+-- bands of one key and white point are mapped as their pixels together are
 pub levels-of : (t : Tally) (first : Header) (bs : List Standing) → Every (IsBand first) bs
     → flatMap (bandLevels t) bs ≡ levelsUnder (toneUnder first t) (joinedPixels bs)
 unfolding flatMap
 levels-of t first [] valid = refl
 levels-of t first (b ∷ bs) valid =
-    rw (valid .0 .key, levels-of t first bs (valid .1))
-    (sym (levels-append (toneUnder first t) (stripPixels (b .strip)) (joinedPixels bs)))
+    let same : toneUnder (bandHeader b) t ≡ toneUnder first t =
+    ap₂ (λ (K : ℕ) (w : White). record { key = K; average = storedAverage (tallySteps t); white = w }) (valid .0 .key) (valid .0 .white) in
+    ap₂ (λ ls ms. ls ++ ms) (ap (λ u. levelsUnder u (stripPixels (b .strip))) same) (levels-of t first bs (valid .1))
+    ∙ sym (levels-append (toneUnder first t) (stripPixels (b .strip)) (joinedPixels bs))

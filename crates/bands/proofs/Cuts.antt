@@ -12,6 +12,8 @@ use Rattle.number.specs.Channels.{IsChannel}
 use Rattle.number.proofs.Laws.{Every, every-take, every-drop}
 use Rattle.refusal.specs.declared.Verdict.the-variants.{Accepted}
 use Rattle.refusal.proofs.Laws.{require-met, and-met}
+use Rattle.white.specs.Whites.{whiteFits}
+use Rattle.white.proofs.Limits.{white-agrees}
 use Rattle.word.specs.declared.header.Header.{Header}
 use Rattle.word.specs.Words.{pixels, sizeFits, keyFits, stripOf, stripLength}
 use Rattle.word.proofs.Limits.{size-limits, fewer-rows}
@@ -22,7 +24,7 @@ use Rattle.strip.proofs.RoundTrip.{IsPage, header-written, length-written, writ
 use Rattle.page.specs.Mapping.{stripLevels}
 use Rattle.page.specs.Tallying.{tallyStrip}
 use Rattle.series.specs.Series.{Standing, stripsFrom, seriesOf}
-use Rattle.series.proofs.Laws.{series-append, standing-met}
+use Rattle.series.proofs.Laws.{front-same, series-append, standing-met}
 use Rattle.bands.specs.Checks.{withRows, joins, checkBand, checkEach, checkBands, joinedHeight, bandHeights, sumHeights}
 use Rattle.bands.specs.Cutting.{joinedChannels, tallStrip, cutChannels, cutInto}
 use Rattle.bands.specs.Claims.{AreItsBands, CutsAreBands}
@@ -43,7 +45,8 @@ record AreCut (h : Header) (top rows : ℕ) (ns : List ℕ) (cs : List Channel) 
   heights : bandHeights bs ≡ ns
   channels : joinedChannels bs ≡ cs
 
-module _ (h : Header) (size : sizeFits (h .width) (h .height) ≡ true) (key : keyFits (h .key) ≡ true) where
+module _ (h : Header) (size : sizeFits (h .width) (h .height) ≡ true) (key : keyFits (h .key) ≡ true)
+    (white : whiteFits (h .white) ≡ true) where
   -- the channels of so many rows
   abbrev channelsIn : (rows : ℕ) → ℕ
   channelsIn n = 3 * pixels (withRows h n)
@@ -59,6 +62,7 @@ module _ (h : Header) (size : sizeFits (h .width) (h .height) ≡ true) (key : k
         record {
           size = fewer-rows (h .width) (h .height) n size (left .each .0) (omega arith);
           key = key;
+          white = white;
           count = length-take-le (channelsIn n) cs (omega arith);
           valid = every-take IsChannel (channelsIn n) cs (left .valid);
         }
@@ -79,7 +83,7 @@ module _ (h : Header) (size : sizeFits (h .width) (h .height) ≡ true) (key : k
         let least = left .each .0 in
         let fits = fewer-rows (h .width) (h .height) (rows + n) size (omega arith) (omega arith) in
         let met : joins (withRows h top) rows (withRows h n) ≡ true =
-        rw (eq-eqb (h .width) (h .width) refl, eq-eqb (h .key) (h .key) refl, fits) in
+        rw (eq-eqb (h .width) (h .width) refl, eq-eqb (h .key) (h .key) refl, white-agrees (h .white), fits) in
         and-met (standing-met _ (written-accepted _ _ band-page Accepted refl))
         (require-met _ _ (ap (λ g. joins (withRows h top) rows g) band-header ∙ met) refl)
 
@@ -144,9 +148,12 @@ module _ (s : List ℕ) (ok : Whole s) where
       let q = page-read s ok in
       let r = cutInto (n ∷ ns) s in
       let left = strip-left (n ∷ ns) each sum in
-      let parts = cut (headerFields s) (q .size) (q .key) n 0 0 (n ∷ ns) (stripChannels s) left in
+      let parts = cut (headerFields s) (q .size) (q .key) (q .white) n 0 0 (n ∷ ns) (stripChannels s) left in
       let first : headerFields r ≡ withRows (headerFields s) n =
-      band-header (headerFields s) (q .size) (q .key) 0 n ns (stripChannels s) left in
+      front-same (band (headerFields s) (q .size) (q .key) (q .white) 0 n ns (stripChannels s) left)
+      (cutChannels (headerFields s) ns (drop (3 * pixels (withRows (headerFields s) n)) (stripChannels s)))
+      (band-long (headerFields s) (q .size) (q .key) (q .white) 0 n ns (stripChannels s) left)
+      ∙ band-header (headerFields s) (q .size) (q .key) (q .white) 0 n ns (stripChannels s) left in
       let accepted = require-met _ _ (le-leb 1 (length r) (omega arith)) (ap (λ g. checkEach g 0 (seriesOf r)) first ∙ parts .accepted) in
       let tall = bands-are-tall r accepted in
       let whole : tallStrip r ≡ s =

@@ -9,6 +9,7 @@ use Rattle.number.specs.Channels.{IsChannel}
 use Rattle.number.proofs.Laws.{Every, every-append}
 use Rattle.refusal.specs.declared.Verdict.the-variants.{Accepted}
 use Rattle.refusal.specs.Verdicts.{andThen}
+use Rattle.white.specs.Whites.{whiteFits}
 use Rattle.word.specs.declared.header.Header.{Header}
 use Rattle.word.specs.Words.{pixels, keyFits}
 use Rattle.word.specs.Pixels.{pixelsOf}
@@ -65,11 +66,16 @@ module _ (first : Header) where
 
 -- ---- the tall strip
 
--- the first band's key is one
+-- the first band's key and white point are within their limits
 row-key : (r : List ℕ) → AreBands r → keyFits (headerFields r .key) ≡ true
 row-key r ok =
     let b = rw (series-next r 0 (ok .some)) at (ok .each) in
     rw (b .0 .key) at (b .0 .whole .head .key-fits)
+
+row-white : (r : List ℕ) → AreBands r → whiteFits (headerFields r .white) ≡ true
+row-white r ok =
+    let b = rw (series-next r 0 (ok .some)) at (ok .each) in
+    rw (b .0 .white) at (b .0 .whole .head .white .fits)
 
 module _ (r : List ℕ) (ok : AreBands r) where
   pub tall-page : IsPage (tallHeader r) (joinedChannels (seriesOf r))
@@ -77,6 +83,7 @@ module _ (r : List ℕ) (ok : AreBands r) where
       record {
         size = ok .fits;
         key = row-key r ok;
+        white = row-white r ok;
         count = row-count (headerFields r) (seriesOf r) (ok .each);
         valid = row-valid (headerFields r) (seriesOf r) (ok .each);
       }

@@ -81,7 +81,7 @@ module _ (r : List ℕ) (ok : AreBands r) where
               valid = every-append IsPixel ps (wordPixels words) (w .valid) words-valid;
               all =
                   append-assoc ps (wordPixels words) (joinedPixels (seriesFrom r (i + length band)))
-                  ∙ rw (words-pixels, b) (sym (ap (λ ss. ps ++ joinedPixels ss) (series-next r i h)) ∙ w .all);
+                  ∙ rw (words-pixels ∙ ap stripPixels b, b) (sym (ap (λ ss. ps ++ joinedPixels ss) (series-next r i h)) ∙ w .all);
             }
 
         -- three words a pixel; the bytes of all pixels so far are not more than the page's

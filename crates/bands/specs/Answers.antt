@@ -15,7 +15,7 @@ use Rattle.bands.specs.Checks.{bandHeader, checkTallyBands}
 unfoldable pub tallyBands : List ℕ → TallyOrRefusal
 tallyBands r = tallyUnder (checkTallyBands r) (joinTallies (seriesOf r))
 
--- a band's levels under the average of a tally, with its own key
+-- a band's levels under the average of a tally, with its own key and white point
 abbrev pub bandLevels : Tally → Standing → List ℕ
 bandLevels t b = levelsUnder (toneUnder (bandHeader b) t) (stripPixels (b .strip))
 

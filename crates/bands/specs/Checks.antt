@@ -10,6 +10,7 @@ use Rattle.refusal.specs.declared.Refusal.the-variants.{WrongLength, SmallOutpu
 use Rattle.refusal.specs.declared.Verdict.{Verdict}
 use Rattle.refusal.specs.declared.Verdict.the-variants.{Accepted}
 use Rattle.refusal.specs.Verdicts.{require, andThen}
+use Rattle.white.specs.Whites.{sameWhite}
 use Rattle.word.specs.declared.header.Header.{Header}
 use Rattle.word.specs.Words.{pixels, sizeFits}
 use Rattle.strip.specs.declared.read.HeaderOrRefusal.{HeaderOrRefusal}
@@ -25,10 +26,12 @@ bandHeader b = headerFields (b .strip)
 
 -- ---- the checks; `above` is the number of rows of the bands above
 
--- a band is not refused for "a width or key unlike the first band's or a joined size over the limits of 1"
+-- a band is not refused for "a width or key unlike the first band's or a joined size over the limits of 1"; "Joined bands must agree in W, or
+-- in having none, else 21" (2026-05)
 unfoldable pub joins : (first : Header) (above : ℕ) (band : Header) → Bool
 joins first above band =
-    eqb (band .width) (first .width) && eqb (band .key) (first .key) && sizeFits (first .width) (above + band .height)
+    eqb (band .width) (first .width) && eqb (band .key) (first .key) && sameWhite (band .white) (first .white)
+    && sizeFits (first .width) (above + band .height)
 
 -- "21 unlike bands, place 0, [..] after that band's own checks"
 unfoldable pub checkBand : (first : Header) (above : ℕ) → Standing → Verdict
@@ -47,7 +50,7 @@ checkBands r = require (leb 1 (length r)) WrongLength 0 (checkEach (headerFields
 
 -- the same page with another number of rows
 abbrev pub withRows : Header → (rows : ℕ) → Header
-withRows h rows = record { width = h .width; height = rows; key = h .key }
+withRows h rows = record { width = h .width; height = rows; key = h .key; white = h .white }
 
 abbrev pub bandHeights : List Standing → List ℕ
 bandHeights bs = map (λ b. bandHeader b .height) bs
@@ -63,7 +66,7 @@ joinedHeight bs = sumHeights (bandHeights bs)
 abbrev pub tallHeader : List ℕ → Header
 tallHeader r = withRows (headerFields r) (joinedHeight (seriesOf r))
 
--- width, joined height and key; of a refused row its refusal
+-- width, joined height, key and white point; of a refused row its refusal
 abbrev pub readBands : List ℕ → HeaderOrRefusal
 readBands r = headerUnder (checkBands r) (tallHeader r)
 

@@ -14,7 +14,7 @@ use Rattle.bands.specs.Checks.{withRows, tallHeader}
 abbrev pub joinedChannels : List Standing → List Channel
 joinedChannels bs = flatMap (λ b. stripChannels (b .strip)) bs
 
--- "the one tall strip": the first band's width and key, the sum of the heights, all channels
+-- "the one tall strip": the first band's width, key and white point, the sum of the heights, all channels
 abbrev pub tallStrip : List ℕ → List ℕ
 tallStrip r = stripOf (tallHeader r) (joinedChannels (seriesOf r))
 

@@ -18,6 +18,7 @@ use series::strip_at;
 use strip::read::HeaderOrRefusal;
 use strip::read::body;
 use strip::read::header_fields;
+use white::same_white;
 use word::header::Header;
 use word::header::size_fits;
 
@@ -30,6 +31,11 @@ fn joins_bands(first: Header, above: u64, band: Header) -> bool
         return false;
     }
     if band.key != first.key {
+        return false;
+    }
+    let white = band.white;
+    let first_white = first.white;
+    if !same_white(white, first_white) {
         return false;
     }
     size_fits(first.width, above + band.height)
@@ -97,7 +103,7 @@ pub(crate) fn tall_pixels(row: &[u32]) -> u64
     width * joined_height(row)
 }
 
-// The width, joined height and key of a row of bands, or its refusal.
+// The width, joined height, key and white point of a row of bands, or its refusal.
 pub fn header(row: &[u32]) -> HeaderOrRefusal
     ensures answer { λ r. ⌜ r ≡ readBands (now (row .entry)) ⌝ }
     ensures told { λ r. ⌜ headerTold r ≡ headerTold (readBands (now (row .entry))) ⌝ }
@@ -106,10 +112,12 @@ pub fn header(row: &[u32]) -> HeaderOrRefusal
     match verdict {
         Verdict::Accepted => {
             let first = header_fields(row);
+            let white = first.white;
             HeaderOrRefusal::Holds(Header {
                 width: first.width,
                 height: joined_height(row),
                 key: first.key,
+                white: white,
             })
         },
         Verdict::Refused(refusal, i) => HeaderOrRefusal::Refuses(refusal, i),

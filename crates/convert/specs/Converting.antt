@@ -1,5 +1,6 @@
 -- Converting: its checks in their order, and the strip that it writes. Assumes nothing.
--- "Converting: 1, 2, 3, 4, then elements in order, 5 before 6; a stored row can only give 8 there."
+-- "Converting: 1, 2, 3, 4, then elements in order, 5 before 6; a stored row can only give 8 there." With a
+-- white point 10 stands between 2 and 3 (2026-05).
 use Prim.Native.Nat.{ℕ}
 use mathlib.Core.List.{List, map}
 use lib.ListN.{length}

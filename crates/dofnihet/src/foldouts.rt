@@ -16,7 +16,7 @@ use bands::tally::tally;
 use refusal::Outcome;
 use refusal::report;
 
-// Width, joined height and key of a row of bands.
+// Width, joined height, key and white point of a row of bands.
 #[no_mangle]
 pub extern "C" fn dofnihet_header_of_bands(bands: &[u32]) -> HeaderAnswer
     ensures { λ r. ⌜ r ≡ headerAnswer (readBands (now (bands .entry))) ⌝ }

@@ -29,7 +29,7 @@ pub extern "C" fn dofnihet_unpack(strip: &[u32], output: &mut [u16]) -> Outcome
     report(unpack(strip, output))
 }
 
-// Width, height and key of a strip.
+// Width, height, key and white point of a strip.
 #[no_mangle]
 pub extern "C" fn dofnihet_header_of(strip: &[u32]) -> HeaderAnswer
     ensures { λ r. ⌜ r ≡ headerAnswer (readHeader (now (strip .entry))) ⌝ }

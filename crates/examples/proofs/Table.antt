@@ -7,8 +7,9 @@ use Rattle.number.specs.Storing.{unit, exponentOf, mantissaOf}
 use Rattle.number.specs.Channels.{channelOf, channelOfCode}
 use Rattle.number.specs.Sources.{channelOfValue, fieldValue, rgbeValue}
 use Rattle.refusal.specs.Verdicts.{require, andThen}
+use Rattle.white.specs.Whites.{whiteFits}
 use Rattle.word.specs.Words.{sizeFits, keyFits}
-use Rattle.word.specs.Fields.{checkSizeWord, checkKeyWord, decodeWord}
+use Rattle.word.specs.Fields.{whiteIn, checkSizeWord, checkKeyWord, decodeWord, checkWhiteWord}
 use Rattle.frame.specs.Frames.{checkFrame}
 use Rattle.convert.specs.Converting.{checkSource}
 use Rattle.strip.specs.Checks.{checkHead, checkBody, checkWith, checkStrip, checkOutput}
@@ -28,7 +29,7 @@ use Rattle.examples.specs.Examples.{TableHolds}
 
 pub table-holds : TableHolds
 unfolding size byRange unit exponentOf mantissaOf channelOf channelOfCode channelOfValue fieldValue rgbeValue
-    require andThen sizeFits keyFits checkFrame checkSource checkSizeWord checkKeyWord decodeWord checkHead checkBody checkWith checkStrip checkOutput
+    require andThen sizeFits keyFits checkFrame checkSource checkSizeWord checkKeyWord whiteFits whiteIn checkWhiteWord decodeWord checkHead checkBody checkWith checkStrip checkOutput
     luminanceOf greatest logTest logOf rootTest rootOf storedAverage averageOf sumOf levelOf flatMap luminancesOf
     checkLight checkTally checkMap tallyStrip decimal twoNumbers checkCount checkInput printedFor
 table-holds = refl

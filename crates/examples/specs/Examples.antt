@@ -10,6 +10,7 @@ use Rattle.number.specs.declared.channel.Decoded.{Decoded}
 use Rattle.number.specs.Sources.{channelOfValue, halfValue, singleValue, rgbeValue}
 use Rattle.refusal.specs.declared.Refusal.{Refusal}
 use Rattle.refusal.specs.Refusals.{outcomeOf}
+use Rattle.white.specs.declared.White.the-variants.{Absent}
 use Rattle.word.specs.declared.header.Header.{Header}
 use Rattle.word.specs.Words.{stripLength}
 use Rattle.strip.specs.Checks.{channelCount}
@@ -77,7 +78,7 @@ greySource [] = []
 greySource (b ∷ bs) = b ∷ b ∷ b ∷ greySource bs
 
 abbrev pub greyHeader : (key : ℕ) (halves : List ℕ) → Header
-greyHeader K bs = record { width = length bs; height = 1; key = K }
+greyHeader K bs = record { width = length bs; height = 1; key = K; white = Absent }
 
 -- what converting leaves in an output of zeros that is just long enough
 abbrev pub greyStrip : (key : ℕ) (halves : List ℕ) → List ℕ

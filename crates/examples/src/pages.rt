@@ -13,6 +13,7 @@ use page::tally::TallyOrRefusal;
 use page::tally::tally;
 use refusal::Verdict;
 use strip::read::body;
+use white::White;
 use word::header::Header;
 use word::header::low_half;
 
@@ -22,6 +23,7 @@ pub fn header(width: u64, key: u64) -> Header {
         width,
         height: 1,
         key,
+        white: White::Absent,
     }
 }
 

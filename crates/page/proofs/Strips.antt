@@ -86,6 +86,7 @@ module _ (s : List ℕ) (ok : Whole s) where
       record {
         key = record { least = q .least; most = q .most };
         average = reported-range _ _ (strip-tally .sum) (present _ _ some);
+        white = ok .head .white .fits;
       }
 
   pub length-levels : length (stripLevels s) ≡ 3 * pixels (headerFields s)

@@ -49,7 +49,7 @@ EachThree Bound (x ∷ xs) (r ∷ g ∷ b ∷ bytes) = Bound x r g b × EachThre
 abbrev pub LitBound : Tone → Pixel → (r g b : ℕ) → Type 0
 LitBound t p r g b = anyLit p ≡ true → LevelBound t p (p .red) r × LevelBound t p (p .green) g × LevelBound t p (p .blue) b
 
--- under a header's key and the stored average of A
+-- under a header's key and white point, and the stored average of A
 pub record LevelHalf (h : Header) (ps : List Pixel) (A : ℤ) (bytes : List ℕ) : Type 0 where
   pub each : EachThree (LitBound (toneOf h (storedAverage A))) ps bytes
 

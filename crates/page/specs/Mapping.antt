@@ -12,9 +12,9 @@ use Rattle.tone.specs.declared.tone.Tone.{Tone}
 use Rattle.body.specs.Levels.{levelsUnder}
 use Rattle.page.specs.Tallying.{tallySteps, stripTally}
 
--- what a page is mapped under: its key, and a stored average
+-- what a page is mapped under: its key, a stored average, and its white point
 abbrev pub toneOf : Header → (average : Stored) → Tone
-toneOf h average = record { key = h .key; average = average }
+toneOf h average = record { key = h .key; average = average; white = h .white }
 
 -- that of a tally
 abbrev pub toneUnder : Header → Tally → Tone

@@ -22,17 +22,19 @@ use strip::read::header_fields;
 use tone::tone::Tone;
 use word::header::Header;
 
-// What a page is mapped under: its key, and the average of a tally with a lit pixel.
+// What a page is mapped under: its key, the average of a tally with a lit pixel, and its white point.
 pub fn tone_of(header: Header, tally: Tally) -> Tone
     requires { ⌜ (0 < tally .count) × IsTally tally ⌝ }
     ensures { λ r. ⌜ r ≡ toneUnder header tally ⌝ }
 {
     let key = header.key;
+    let white = header.white;
     let count = tally.count;
     let sum = tally.sum;
     Tone {
         key: key,
         average: lit_average(count, sum),
+        white: white,
     }
 }
 

@@ -94,7 +94,8 @@ module _ (strip : RefT (List ℕ)) where
   answers-under : (v : Verdict) → checkStrip s ≡ v → (n : ℕ) → answersOf n (reader (startUnder v s)) ≡ answersUnder v n (stripPixels s)
   answers-under Accepted e n =
       let ok = whole-strip s e in
-      answers-from ok count 0 n (omega arith) ∙ rw (pixels-in s (ok .channels))
+      let first : start ≡ start + 3 * 0 = omega arith in
+      ap (λ p. answersOf n (reader p)) first ∙ answers-from ok count 0 n (omega arith) ∙ rw (pixels-in s (ok .channels))
   answers-under (Refused r i) e n = same-answers 0 (step-checked s 0 refl ∙ ap stepUnder e) (after-stays s 0 refl) n
 
 pub every-run : EveryRun

@@ -14,6 +14,7 @@ use Rattle.refusal.specs.declared.Refusal.the-variants.{
   UnexpectedWord,
   InvalidChannel,
   DarkPage,
+  BadWhite,
   NoSuchRow,
   UnlikeBands,
 }
@@ -79,5 +80,6 @@ numbered TooBright i e = omega (arith, e)
 numbered UnexpectedWord i e = omega (arith, e)
 numbered InvalidChannel i e = omega (arith, e)
 numbered DarkPage i e = omega (arith, e)
+numbered BadWhite i e = omega (arith, e)
 numbered NoSuchRow i e = omega (arith, e)
 numbered UnlikeBands i e = omega (arith, e)

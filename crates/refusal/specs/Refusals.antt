@@ -12,6 +12,7 @@ use Rattle.refusal.specs.declared.Refusal.the-variants.{
   UnexpectedWord,
   InvalidChannel,
   DarkPage,
+  BadWhite,
   NoSuchRow,
   UnlikeBands,
 }
@@ -41,6 +42,8 @@ outcomeOf UnexpectedWord i = 7 at i
 outcomeOf InvalidChannel i = 8 at i
 -- "dark page" (2026-03)
 outcomeOf DarkPage i = 9 at 0
+-- "bad white" (2026-05)
+outcomeOf BadWhite i = 10 at 0
 -- "no such row"
 outcomeOf NoSuchRow i = 20 at 0
 -- "unlike bands" (2026-02)

@@ -14,6 +14,7 @@ pub enum Refusal {
     UnexpectedWord,
     InvalidChannel,
     DarkPage,
+    BadWhite,
     NoSuchRow,
     UnlikeBands,
 }
@@ -70,6 +71,10 @@ pub fn outcome_of(refusal: Refusal, index: usize) -> Outcome
         },
         Refusal::DarkPage => Outcome {
             number: 9,
+            place: 0,
+        },
+        Refusal::BadWhite => Outcome {
+            number: 10,
             place: 0,
         },
         Refusal::NoSuchRow => Outcome {

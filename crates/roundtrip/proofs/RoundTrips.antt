@@ -88,6 +88,7 @@ module _ (f : Format) (h : Header) (xs : List ℕ) (room : ℕ) (accepted : chec
       record {
         size = limits .size;
         key = limits .key;
+        white = limits .white;
         count = channel-count f (pixels h) xs (limits .long);
         valid = elements-valid f xs (parts .1);
       }
@@ -126,7 +127,7 @@ module _ (h : Header) (cs : List Channel) (p : IsPage h cs) where
       let count : length (map codeOf cs) ≡ 3 * pixels h = length-map cs codeOf ∙ p .count in
       and-met
       (require-met _ _ (p .size)
-      (require-met _ _ (p .key) (require-met _ _ (eq-eqb _ _ count) (require-met _ _ (le-leb _ _ fits) refl))))
+      (require-met _ _ (p .key) (require-met _ _ (p .white) (require-met _ _ (eq-eqb _ _ count) (require-met _ _ (le-leb _ _ fits) refl)))))
       (codes-read 0 cs (p .valid) .accepted)
 
   pub codes-converted : converted stored h (map codeOf cs) ≡ stripOf h cs

@@ -28,14 +28,15 @@ pub record Yields (s : List ℕ) (h : Header) (ds : List Decoded) : Type 0 where
   pub channels : map Decoded.Holds (stripChannels s) ≡ ds
   pub count : length (stripCodes s) ≡ 3 * pixels h
 
--- What a conversion wrote yields the width, height and key that were given, and the channels that the source decodes to.
+-- What a conversion wrote yields the width, height, key and white point, or none, that were given, and the channels that the source
+-- decodes to.
 abbrev pub ReadsBack : Type 0
 ReadsBack =
     (f : Format) (h : Header) (xs : List ℕ) (room : ℕ) → checkSource f h xs room ≡ Accepted
     → Yields (converted f h xs) h (decodedOf (decodedSource f xs))
 
 -- An accepted strip yields the fields of its header words and the channels of its channel words. Unpacked and converted again with its own
--- size and key, it is accepted and is the same words.
+-- header, it is accepted and is the same words.
 pub record WrittenAgain (s : List ℕ) : Type 0 where
   pub yields : Yields s (headerFields s) (decodedOf (decodedBody s))
   pub accepted : (room : ℕ) → length s ≤ room → checkSource stored (headerFields s) (stripCodes s) room ≡ Accepted

@@ -8,7 +8,7 @@ use lib.Seq.{drop-drop, drop-nil, take-all, take-at, drop-at}
 use Rattle.refusal.specs.declared.Verdict.{Verdict}
 use Rattle.refusal.specs.declared.Verdict.the-variants.{Accepted, Refused}
 use Rattle.word.specs.Words.{stripLength}
-use Rattle.word.proofs.Limits.{pixels-small}
+use Rattle.word.proofs.Limits.{head-short, pixels-small}
 use Rattle.strip.specs.Checks.{wordAt, headerFields, declaredLength, checkStrip}
 use Rattle.strip.proofs.Bodies.{part-within}
 use Rattle.strip.proofs.Places.{place-within}
@@ -95,18 +95,19 @@ module _ (r : List ℕ) (i : ℕ) where
       by (Refused q j) e =
           let within = place-within (stripAt r i) e in
           let small = pixels-small _ (wordAt (stripAt r i) 0) refl in
-          omega arith
+          omega (arith, head-short (headerFields (stripAt r i)))
 
 -- ---- a strip before other words
 
 module _ (s rest : List ℕ) (long : length s ≡ declaredLength s) where
-  front-same : headerFields (s ++ rest) ≡ headerFields s
+  pub front-same : headerFields (s ++ rest) ≡ headerFields s
   front-same = by s long
     where
       by : (t : List ℕ) → length t ≡ declaredLength t → headerFields (t ++ rest) ≡ headerFields t
       by [] e = absurd (omega (arith, e))
       by (a ∷ []) e = absurd (omega (arith, e))
-      by (a ∷ b ∷ t) e = refl
+      by (a ∷ b ∷ []) e = absurd (omega (arith, e))
+      by (a ∷ b ∷ c ∷ t) e = refl
 
   pub series-append : (i : ℕ) → stripsFrom i 0 (s ++ rest) ≡ record { start = i; strip = s } ∷ stripsFrom (i + length s) 0 rest
   series-append i =

@@ -11,12 +11,12 @@ pub record Standing : Type 0 where
   pub start : ℕ
   pub strip : List ℕ
 
--- the strip at the front of some words: as many as its size word declares, or as there are
+-- the strip at the front of some words: as many as its first words declare, or as there are
 abbrev pub frontStrip : List ℕ → List ℕ
 frontStrip ws = take (declaredLength ws) ws
 
--- "each size word telling where the next begins": the strips in some words, the first of which has the index i; the first `left` words belong
--- to the strip before
+-- "each size word telling where the next begins", and the white word "counts in where the next band begins" (2026-05): the strips in some
+-- words, the first of which has the index i; the first `left` words belong to the strip before
 unfoldable pub stripsFrom : (i left : ℕ) → List ℕ → List Standing
 stripsFrom i left [] = []
 stripsFrom i (suc left) (w ∷ ws) = stripsFrom (suc i) left ws
@@ -29,7 +29,7 @@ seriesOf r = stripsFrom 0 0 r
 
 -- ---- each checked where it stands
 
--- "places count from the row's start" (1, 2 and 3 have place 0, whatever the index)
+-- "places count from the row's start" (1, 2, 3 and 10 have place 0, whatever the index)
 abbrev pub movedBy : (start : ℕ) → Verdict → Verdict
 movedBy start Accepted = Accepted
 movedBy start (Refused r i) = Refused r (start + i)

@@ -29,6 +29,7 @@ use Rattle.strip.specs.Checks.{
   checkRow,
 }
 use Rattle.word.specs.Fields.{checkSizeWord, checkKeyWord}
+use Rattle.word.proofs.Thirds.{IsThird, is-third}
 
 -- ---- a strip's header and length
 
@@ -37,6 +38,7 @@ pub record Head (s : List ℕ) : Type 0 where
   pub size-fits : sizeFits (headerFields s .width) (headerFields s .height) ≡ true
   pub key : wordAt s 1 ≡ keyWord (headerFields s .key)
   pub key-fits : keyFits (headerFields s .key) ≡ true
+  pub white : IsThird (wordAt s 2)
   pub long : length s ≡ declaredLength s
 
 pub headed : (s : List ℕ) → checkHead s ≡ Accepted → Head s
@@ -44,6 +46,7 @@ unfolding checkHead checkSizeWord checkKeyWord
 headed s e =
     let a = and-passed _ _ (require-passed _ _ _ _ e .1) in
     let b = and-passed _ _ (a .1) in
+    let c = and-passed _ _ (b .1) in
     let size = require-passed _ _ _ _ (a .0) in
     let key = require-passed _ _ _ _ (b .0) in
     record {
@@ -51,7 +54,8 @@ headed s e =
       size-fits = require-passed _ _ _ _ (size .1) .0;
       key = eqb-true _ _ (key .0);
       key-fits = require-passed _ _ _ _ (key .1) .0;
-      long = eqb-true _ _ (require-passed _ _ _ _ (b .1) .0);
+      white = is-third (wordAt s 2) (c .0);
+      long = eqb-true _ _ (require-passed _ _ _ _ (c .1) .0);
     }
 
 -- no channel word is missing

@@ -1,9 +1,10 @@
 -- A refused strip names a word up to where its end word should stand. Assumes nothing.
 use Prim.Native.Nat.{ℕ, suc, _+_, _≤_}
 use mathlib.Core.Path.{_≡_, subst}
-use mathlib.Core.Bool.{Bool, true, false}
+use mathlib.Core.Bool.{Bool, true, false, cond}
 use mathlib.Core.List.{List, [], _∷_}
 use native.Mathlib.Omega.{arith}
+use lib.Dec.{eqb}
 use lib.ListN.{length, drop, length-take}
 use Rattle.number.specs.declared.channel.Decoded.{Decoded}
 use Rattle.number.specs.declared.channel.Decoded.the-variants.{Holds, Refuses}
@@ -11,7 +12,7 @@ use Rattle.refusal.specs.declared.Refusal.{Refusal}
 use Rattle.refusal.specs.declared.Verdict.{Verdict}
 use Rattle.refusal.specs.declared.Verdict.the-variants.{Accepted, Refused}
 use Rattle.refusal.specs.Verdicts.{require, andThen}
-use Rattle.word.specs.Fields.{decodeWord, checkSizeWord, checkKeyWord}
+use Rattle.word.specs.Fields.{kindIn, decodeWord, checkSizeWord, checkKeyWord, checkWhiteWord}
 use Rattle.word.specs.Placing.{placed, verdictAt, firstRefusal}
 use Rattle.word.specs.Words.{bodyStart, endIndex}
 use Rattle.strip.specs.Checks.{wordAt, headerFields, channelCount, bodyPart, checkHead, checkBody, checkWith, checkStrip}
@@ -49,6 +50,14 @@ module _ (n : ℕ) where
   unfolding checkKeyWord
   up-key w h = up-require _ _ _ _ h (up-require _ _ _ _ (omega arith) tt)
 
+  up-white : (w : ℕ) → 2 ≤ n → UpTo (checkWhiteWord w)
+  unfolding checkWhiteWord
+  up-white w h = by (eqb (kindIn w) 3) _ (up-require _ _ _ _ h (up-require _ _ _ _ (omega arith) tt))
+    where
+      by : (b : Bool) (v : Verdict) → UpTo v → UpTo (cond b v Accepted)
+      by true v g = g
+      by false v g = tt
+
 places : (s : List ℕ) → UpTo (endIndex (headerFields s)) (checkStrip s)
 unfolding checkStrip checkWith checkHead checkBody
 places s =
@@ -57,7 +66,8 @@ places s =
     up-and n _ _
     (up-require n _ _ _ _ (omega arith)
     (up-and n _ _ (up-size n (wordAt s 0))
-    (up-and n _ _ (up-key n (wordAt s 1) (omega arith)) (up-require n _ _ _ _ (omega arith) tt))))
+    (up-and n _ _ (up-key n (wordAt s 1) (omega arith))
+    (up-and n _ _ (up-white n (wordAt s 2) (omega arith)) (up-require n _ _ _ _ (omega arith) tt)))))
     (up-and n _ _ tt
     (up-and n _ _ (up-words n (bodyStart (headerFields s)) 0 (bodyPart s) (omega (arith, long))) (up-require n _ _ _ _ (omega arith) tt)))
 

@@ -1,6 +1,7 @@
 -- The checks of a strip in their order. Assumes nothing.
 -- "A strip: fewer than two words is 3; then first word 7, size 1, second word 7, key 2, length 3, row 20, tray 4 where one is lent; then
--- words in order, 7 before 8; last the end word."
+-- words in order, 7 before 8; last the end word." Of a white word (2026-05) "7 for spare bits, then 10 bad white .. both between key and
+-- length".
 use Prim.Native.Nat.{ℕ, _*_}
 use mathlib.Core.List.{List}
 use lib.ListN.{length, getD, take, drop}
@@ -10,7 +11,7 @@ use Rattle.refusal.specs.declared.Verdict.{Verdict}
 use Rattle.refusal.specs.declared.Verdict.the-variants.{Accepted}
 use Rattle.refusal.specs.Verdicts.{require, andThen}
 use Rattle.word.specs.declared.header.Header.{Header}
-use Rattle.word.specs.Fields.{widthIn, heightIn, low16, decodeWord, checkSizeWord, checkKeyWord}
+use Rattle.word.specs.Fields.{widthIn, heightIn, low16, whiteIn, decodeWord, checkSizeWord, checkKeyWord, checkWhiteWord}
 use Rattle.word.specs.Words.{pixels, endWord, bodyStart, endIndex, stripLength}
 use Rattle.word.specs.Placing.{Placed, placed, firstRefusal}
 
@@ -20,9 +21,15 @@ abbrev pub wordAt : List ℕ → (i : ℕ) → ℕ
 wordAt s i = getD s i 0
 
 abbrev pub headerFields : List ℕ → Header
-headerFields s = record { width = widthIn (wordAt s 0); height = heightIn (wordAt s 0); key = low16 (wordAt s 1) }
+headerFields s =
+    record {
+      width = widthIn (wordAt s 0);
+      height = heightIn (wordAt s 0);
+      key = low16 (wordAt s 1);
+      white = whiteIn (wordAt s 2);
+    }
 
--- the length that its size word declares
+-- the length that its size word declares, with a white word that it carries
 abbrev pub declaredLength : List ℕ → ℕ
 declaredLength s = stripLength (headerFields s)
 
@@ -44,8 +51,9 @@ checkHead s =
     require (leb 2 (length s)) WrongLength 0
     (andThen (checkSizeWord (wordAt s 0))
     (andThen (checkKeyWord (wordAt s 1))
+    (andThen (checkWhiteWord (wordAt s 2))
     (require (eqb (length s) (declaredLength s)) WrongLength 0
-    Accepted)))
+    Accepted))))
 
 unfoldable pub checkBody : List ℕ → Verdict
 checkBody s =

@@ -8,6 +8,7 @@ use Rattle.number.specs.Channels.{codeOf}
 use Rattle.refusal.specs.declared.Verdict.{Verdict}
 use Rattle.refusal.specs.declared.Verdict.the-variants.{Accepted, Refused}
 use Rattle.refusal.specs.Told.{Told, holding, refusing}
+use Rattle.white.specs.Whites.{presentIn, tenthsIn}
 use Rattle.word.specs.declared.header.Header.{Header}
 use Rattle.strip.specs.declared.read.HeaderOrRefusal.{HeaderOrRefusal}
 use Rattle.strip.specs.declared.read.HeaderOrRefusal.the-variants.{Holds, Refuses}
@@ -19,9 +20,11 @@ abbrev pub headerUnder : Verdict → Header → HeaderOrRefusal
 headerUnder Accepted h = Holds h
 headerUnder (Refused r i) h = Refuses r i
 
--- in numbers: width, height and key, or the refusal
+-- in numbers: width, height, key and white point, or the refusal
 abbrev pub headerTold : HeaderOrRefusal → Told
-headerTold (Holds h) = holding (pos (h .width) ∷ pos (h .height) ∷ pos (h .key) ∷ [])
+headerTold (Holds h) =
+    holding
+    (pos (h .width) ∷ pos (h .height) ∷ pos (h .key) ∷ pos (presentIn (h .white)) ∷ pos (tenthsIn (h .white)) ∷ [])
 headerTold (Refuses r i) = refusing r i
 
 -- its header; of a refused strip its refusal

@@ -16,6 +16,7 @@ use refusal::Refusal;
 use refusal::Verdict;
 use word::header::check_key_word;
 use word::header::check_size_word;
+use word::header::check_white_word;
 use word::header::end_word;
 use word::header::height_in;
 
@@ -33,6 +34,10 @@ fn check_head(strip: &[u32]) -> Verdict
     let key = check_key_word(strip[1]);
     let Verdict::Accepted = key else {
         return key;
+    };
+    let white = check_white_word(word_at(strip, 2));
+    let Verdict::Accepted = white else {
+        return white;
     };
     if strip.len() == declared_length(strip) {
         Verdict::Accepted

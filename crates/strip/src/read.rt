@@ -13,11 +13,11 @@ use crate::check::check;
 use crate::check::check_output;
 use refusal::Refusal;
 use refusal::Verdict;
-use word::body::BODY_START;
 use word::header::Header;
 use word::header::height_in;
 use word::header::low_half;
 use word::header::pixel_count;
+use word::header::white_in;
 use word::header::width_in;
 
 // The word at an index of a row; 0 where there is none.
@@ -38,7 +38,7 @@ pub(crate) fn declared_pixels(row: &[u32]) -> usize
 pub fn body_start(row: &[u32]) -> usize
     ensures { λ r. ⌜ r ≡ bodyStart (headerFields (now (row .entry))) ⌝ }
 {
-    BODY_START
+    word::body::body_start(header_fields(row))
 }
 
 // The index of its end word.
@@ -79,6 +79,7 @@ pub fn header_fields(row: &[u32]) -> Header
         width: width_in(word_at(row, 0)) as u64,
         height: height_in(word_at(row, 0)) as u64,
         key: low_half(word_at(row, 1)) as u64,
+        white: white_in(word_at(row, 2)),
     }
 }
 

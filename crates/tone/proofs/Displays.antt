@@ -1,10 +1,11 @@
 -- Step 5: the display luminance of v · 2^e units, v = 2M + 1. Assumes nothing.
-use mathlib.Core.Path.{_≡_, refl, sym, ap, _∙_, subst}
+use mathlib.Core.Path.{_≡_, refl, sym, ap, ap₂, _∙_, subst}
 use Prim.Native.Nat.{ℕ, _+_, _-_, _*_, _^_, _≤_, _<_}
 use native.Mathlib.Nat.{
   le-refl,
   le-trans,
   lt-of-le-of-lt,
+  lt-of-mul-lt-mul-right,
   mul-assoc,
   mul-le-mul,
   mul-le-mul-left,
@@ -18,12 +19,19 @@ use Rattle.number.proofs.Laws.{
   storedWorth,
   Frac,
   _over_,
+  twoToMinus,
+  Below,
   Normalised,
   IsMantissa,
   unit,
   storedOf,
   unit-pos,
   unit-power,
+  worth-scaled,
+  is-mantissa,
+  idempotent,
+  above-down,
+  code-mono,
   cell,
   fits-between,
   ratio-above,
@@ -34,10 +42,11 @@ use Rattle.number.proofs.Laws.{
   stored-as,
 }
 use Rattle.number.specs.declared.ratio.Stored.{Stored}
-use Rattle.tone.specs.Levels.{reinhard, displayOf}
+use Rattle.tone.specs.Levels.{reinhard, curveOf, displayOf}
 use Rattle.tone.specs.Claims.{IsScaled, DarkIsItself, BrightIsWhite}
 use Rattle.luminance.proofs.Products.{power-difference, shift-most}
 use Rattle.luminance.proofs.Storables.{unitRatio, Storable, StoresAs, shut}
+use Rattle.tone.proofs.Curves.{NeverStretches, Between, curve-ratio, curve-between}
 
 -- L/(1+L) of v · 2^e units
 abbrev share : (v e : ℕ) → Frac
@@ -46,14 +55,13 @@ share v e = reinhard (v * 2 ^ e over unit)
 share-pos : (v e : ℕ) → 0 < share v e .den
 share-pos v e = omega (arith, unit-pos)
 
--- every display luminance is above 2^-129
-pub display-stores : (l : Stored) → IsScaled l → StoresAs (reinhard (storedWorth l)) (displayOf reinhard l)
-display-stores l s =
-    stores-by-rule (reinhard (storedWorth l)) (share-pos _ _)
-    (record {
+-- it is above 2^-129
+share-above : (l : Stored) → IsScaled l → Below (twoToMinus 129) (reinhard (storedWorth l))
+share-above l s =
+    record {
       cross = shut (λ (u : ℕ). 1 * (u + w) < w * 2 ^ 129)
           (large (2 ^ 129) w (lit≤ tt) (mul-le-mul {n₁ = 257} (omega (arith, s .mantissa)) (pow-mono {i = 1} (s .least))));
-    })
+    }
   where
     w : ℕ
     w = (2 * l .mantissa + 1) * 2 ^ l .exponent
@@ -61,16 +69,14 @@ display-stores l s =
     large : (B w : ℕ) → 2 ≤ B → 257 * 2 ≤ w → 1 * (256 * B + w) < w * B
     large B w h k = omega (arith, mul-le-mul k h, mul-le-mul-right B k, mul-le-mul-left w h)
 
--- A dark one is itself; for e = 120 and M = 255 the mantissa is 254. In the lemma q is 2^e, and B is 2^119, of which 2^128 and 2^137 are
--- multiples.
-pub dark : (l : Stored) → l .exponent < 120 → IsMantissa (l .mantissa) → displayOf reinhard l ≡ l
-dark l h m =
-    stored-as
-    (record {
+-- A dark one is stored as L is; for e = 120 and M = 255 the mantissa is 254. In the lemma q is 2^e, and B is 2^119, of which 2^128 and
+-- 2^137 are multiples.
+dark-share : (l : Stored) → l .exponent < 120 → IsMantissa (l .mantissa) → StoresAs (reinhard (storedWorth l)) l
+dark-share l h m =
+    record {
       normalised = shut (λ (u : ℕ). Normalised (v * 2 ^ E * 2 ^ 128) ((u + v * 2 ^ E) * 2 ^ E) M)
           (shown (2 ^ E) (2 ^ 119) (pow-mono {i = E} {j = 119} (omega arith)) (pow-pos E));
-    })
-    (record { cross = refl }) (share-pos v E)
+    }
   where
     E : ℕ
     E = l .exponent
@@ -93,6 +99,45 @@ dark l h m =
         cell (omega (arith, mul-lt-mul-of-pos-right a p)) (m .most) (omega (arith, mul-le-mul-right q b))
         (omega (arith, mul-lt-mul-of-pos-right c p))
 
+-- L is stored as itself
+pub itself : (l : Stored) → IsMantissa (l .mantissa) → StoresAs (storedWorth l) l
+itself l m =
+    subst (λ (F : Frac). StoresAs F l) (sym (worth-scaled (l .exponent) (l .mantissa)))
+    (idempotent 128 (l .exponent) (l .mantissa) m)
+
+-- ---- every curve between L/(1+L) and L
+
+module _ (f : Frac → Frac) (S : NeverStretches f) (between : Between f) (l : Stored) where
+  display-pos : 0 < f (storedWorth l) .den
+  display-pos = S .den-pos (storedWorth l) unit-pos
+
+  -- it is stored where L/(1+L) is above 2^-129
+  stored-above : Below (twoToMinus 129) (reinhard (storedWorth l)) → StoresAs (f (storedWorth l)) (displayOf f l)
+  stored-above h =
+      stores-by-rule (f (storedWorth l)) display-pos
+      (record { cross = above _ _ _ _ (2 ^ 129) (h .cross) (between .low (storedWorth l) .cross) display-pos })
+    where
+      above : (n d m e B : ℕ) → 1 * d < n * B → n * e ≤ m * d → 0 < e → 1 * e < m * B
+      above n d m e B h k p = lt-of-mul-lt-mul-right d (omega (arith, mul-lt-mul-of-pos-right h p, mul-le-mul-right B k))
+
+  pub display-stores : IsScaled l → StoresAs (f (storedWorth l)) (displayOf f l)
+  display-stores s = stored-above (share-above l s)
+
+  -- where L/(1+L) and L are stored alike, so is what lies between
+  pub dark : l .exponent < 120 → IsMantissa (l .mantissa) → displayOf f l ≡ l
+  dark h m =
+      let s = dark-share l h m in
+      let t = stored-above (above-down s 129 .0 (omega arith)) in
+      let low = code-mono s t (between .low (storedWorth l)) in
+      let high = code-mono t (itself l m) (between .high (storedWorth l)) in
+      let mt = is-mantissa t in
+      ap₂ (λ (x m : ℕ). record { exponent = x; mantissa = m }) (omega arith) (omega arith)
+
+pub dark-is-itself : DarkIsItself
+dark-is-itself w fits l h = dark (curveOf w) (curve-ratio w fits) (curve-between w fits) l (omega arith)
+
+-- ---- L/(1+L)
+
 -- A bright one is white; for e = 136 and M = 254 the mantissa is 254.
 pub bright : (l : Stored) → 136 < l .exponent → IsMantissa (l .mantissa)
     → displayOf reinhard l ≡ record { exponent = 128; mantissa = 255 }
@@ -109,9 +154,6 @@ bright l h m =
 
     white : (C w : ℕ) → 0 < C → 255 * C ≤ w → Normalised (w * 1) ((C + w) * 1) 255
     white C w p g = cell (omega arith) (omega arith) (omega arith) (omega arith)
-
-pub dark-is-itself : DarkIsItself
-dark-is-itself l h = dark l (omega arith)
 
 pub bright-is-white : BrightIsWhite
 bright-is-white l h = bright l (omega arith)

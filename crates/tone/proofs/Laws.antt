@@ -8,7 +8,7 @@ pub use Rattle.tone.proofs.LevelSteps.{black-level}
 pub use Rattle.tone.proofs.Halves.{no-half}
 -- a factor: its bound, that of a right table, and the levels by it
 pub use Rattle.tone.proofs.Factors.{factor-most, factor-by, level-by-factor, level-unlit}
--- the second half of demand 3, for every curve that never stretches a ratio, and for L/(1+L)
-pub use Rattle.tone.proofs.Curves.{NeverStretches, reinhard-ratio}
+-- the second half of demand 3, for every curve that never stretches a ratio, and for that of every page
+pub use Rattle.tone.proofs.Curves.{NeverStretches, curve-ratio}
 pub use Rattle.tone.proofs.LevelBounds.{pixel-bound}
 pub use Rattle.tone.proofs.PixelBounds.{level-bound}

@@ -4,6 +4,7 @@ pub mod Laws
 pub mod Scaled
 pub mod ScaledTables
 pub mod Displays
+pub mod Whites
 pub mod LevelSteps
 pub mod Halves
 -- step 6 by factors

@@ -1,4 +1,5 @@
 pub mod Limits
+pub mod Thirds
 pub mod Decoding
 pub mod Walks
 pub mod Pixels

@@ -1,17 +1,17 @@
--- What an accepted size and key keep to. Assumes nothing.
+-- What an accepted size and key keep to, and where the channel words begin. Assumes nothing.
 use Prim.Native.Nat.{ℕ, _*_, _≤_}
-use mathlib.Core.Path.{_≡_, refl}
-use mathlib.Core.Bool.{Bool, true, false, _&&_}
+use mathlib.Core.Path.{_≡_}
+use mathlib.Core.Bool.{true}
 use native.Mathlib.Nat.{mul-le-mul, mul-le-mul-left}
 use native.Mathlib.Omega.{arith}
 use borrow.Author.Tests.{leb-true, le-leb}
+use lib.ListN.{length}
+use Rattle.white.specs.declared.White.{White}
+use Rattle.white.specs.declared.White.the-variants.{Absent, Tenths}
+use Rattle.white.proofs.Limits.{both-true}
 use Rattle.word.specs.declared.header.Header.{Header}
-use Rattle.word.specs.Words.{sizeFits, keyFits, bodyStart}
+use Rattle.word.specs.Words.{sizeFits, keyFits, whiteWords, bodyStart}
 use Rattle.word.specs.Fields.{widthIn, heightIn}
-
-pub both-true : (a b : Bool) → (a && b) ≡ true → (a ≡ true) × (b ≡ true)
-both-true true b e = (refl, e)
-both-true false b e = (cc, cc)
 
 pub record Sized (w h : ℕ) : Type 0 where
   pub wide : 1 ≤ w
@@ -68,6 +68,13 @@ pixels-small n w e =
     let k : heightIn w ≤ 16383 = omega arith in
     omega (arith, mul-le-mul h k)
 
--- size and key word stand before the channels
+-- size and key word stand before the channels, and at most one more
 pub behind-head : (h : Header) → 2 ≤ bodyStart h
 behind-head h = omega arith
+
+pub head-short : (h : Header) → bodyStart h ≤ 3
+head-short h = omega (arith, by (h .white))
+  where
+    by : (w : White) → length (whiteWords w) ≤ 1
+    by Absent = omega arith
+    by (Tenths W) = omega arith

@@ -4,8 +4,11 @@ use Prim.Native.Nat.{ℕ, suc, _+_, _*_, _%_, _^_}
 use mathlib.Core.List.{List, [], _∷_, _++_}
 use mathlib.Core.Bool.{Bool, _&&_}
 use lib.Dec.{leb}
+use lib.ListN.{length}
 use Rattle.number.specs.declared.channel.Channel.{Channel}
 use Rattle.number.specs.Channels.{codeOf}
+use Rattle.white.specs.declared.White.{White}
+use Rattle.white.specs.declared.White.the-variants.{Absent, Tenths}
 use Rattle.word.specs.declared.header.Header.{Header}
 
 -- ---- the page
@@ -35,8 +38,17 @@ sizeWord w h = wordOf 1 (w * 2 ^ 14 + h)
 abbrev pub keyWord : (key : ℕ) → ℕ
 keyWord k = wordOf 2 k
 
+-- "A strip may carry, third, a word of kind 3 with W in bits 15..0" (2026-05), for a W of 16 bits
+abbrev pub whiteWord : (W : ℕ) → ℕ
+whiteWord W = wordOf 3 W
+
+-- "Strips with the word are one longer"
+abbrev pub whiteWords : White → List ℕ
+whiteWords Absent = []
+whiteWords (Tenths W) = whiteWord W ∷ []
+
 abbrev pub headWords : Header → List ℕ
-headWords h = sizeWord (h .width) (h .height) ∷ keyWord (h .key) ∷ []
+headWords h = sizeWord (h .width) (h .height) ∷ keyWord (h .key) ∷ whiteWords (h .white)
 
 -- "Kinds 4, 5, 6: red, green, blue of each pixel in turn, left to right, top row first; E in 15..8, M in 7..0." The channels of a page are
 -- numbered in this order from 0; a channel's E and M, in these bits, are its 16-bit code
@@ -57,18 +69,18 @@ endWord n = wordOf 7 n
 
 -- ---- the strip
 
--- the index of the first channel word
+-- the index of the first channel word, behind size and key word, and the white word where there is one
 abbrev pub bodyStart : Header → ℕ
-bodyStart h = 2
+bodyStart h = length (headWords h)
 
 -- the index of the end word, behind three channel words a pixel
 abbrev pub endIndex : Header → ℕ
 endIndex h = bodyStart h + 3 * pixels h
 
--- "Length: 3 × pixels + 3."
+-- "Length: 3 × pixels + 3.", and one more with the white word
 abbrev pub stripLength : Header → ℕ
 stripLength h = endIndex h + 1
 
 -- the strip of a page
 abbrev pub stripOf : Header → List Channel → List ℕ
-stripOf h cs = headWords h ++ bodyWords 0 cs ++ endWord (pixels h) ∷ []
+stripOf h cs = headWords h ++ (bodyWords 0 cs ++ endWord (pixels h) ∷ [])

@@ -1,11 +1,12 @@
 // The channel words of a strip.
 ghost use mathlib.Core.Path.{_≡_};
-ghost use Rattle.word.specs.Words.{channelWord};
+ghost use Rattle.word.specs.Words.{channelWord, bodyStart};
 ghost use Rattle.word.specs.Fields.{decodeWord};
 ghost use Rattle.word.specs.Placing.{verdictAt};
 ghost use Rattle.word.specs.Pixels.{pixelOf, wordChannel};
 ghost use Rattle.number.specs.Channels.{decodedTold};
 ghost use Rattle.refusal.specs.Verdicts.{reportOf};
+use crate::header::Header;
 use crate::header::low_half;
 use number::channel::Channel;
 use number::channel::Decoded;
@@ -13,9 +14,18 @@ use number::channel::Pixel;
 use number::channel::code_to_channel;
 use refusal::Refusal;
 use refusal::Verdict;
+use white::White;
 
-// The index of the first channel word.
-pub const BODY_START: usize = 2;
+// The index of the first channel word: size and key word stand before it, and the white word where there is one.
+pub fn body_start(header: Header) -> usize
+    ensures { λ r. ⌜ r ≡ bodyStart header ⌝ }
+{
+    let white = header.white;
+    match white {
+        White::Absent => 2,
+        White::Tenths(_) => 3,
+    }
+}
 
 // The word of channel k of a page, from the channel's 16-bit form.
 pub fn channel_word(k: usize, code: u16) -> u32

@@ -6,7 +6,7 @@ use Rattle.answers.proofs.headers.page_header.Tie as tie
 
 returns : tie.Need-returns
 unfolding headerOf
-returns c = search needs
+returns c = rw (c .white-given .ensures)
 
 pub page-header-spec : {M : Type 1} → statement M
-page-header-spec = tie.close (tie.spec returns)
+page-header-spec = tie.close (tie.spec (λ c κs. search needs) returns)

@@ -8,7 +8,7 @@ use Rattle.refusal.specs.declared.Verdict.the-variants.{Accepted}
 use Rattle.refusal.specs.Verdicts.{require, andThen}
 use Rattle.word.specs.Placing.{firstRefusal}
 use Rattle.word.specs.Words.{endIndex, endWord, pixels}
-use Rattle.word.proofs.Limits.{pixels-small}
+use Rattle.word.proofs.Limits.{head-short, pixels-small}
 use Rattle.strip.specs.Checks.{wordAt, headerFields, decodedBody, checkBody}
 use Rattle.strip.proofs.check.check_body.Statement.{statement}
 use Rattle.strip.proofs.check.check_body.Tie as tie
@@ -46,6 +46,7 @@ pub check-body-spec : {M : Type 1} → statement M
 check-body-spec =
     tie.close
     (tie.spec
-    (λ c κs. search needs) (λ c. search needs) (λ c κs. search needs) (λ c κs. search needs) (λ c. search needs) (λ c. search needs) returns
+    (λ c κs. search needs) (λ c. omega (arith, c .body-start .ensures, head-short (headerFields (now (c .before .before .args .strip)))))
+    (λ c κs. search needs) (λ c κs. search needs) (λ c. search needs) (λ c. search needs) returns
     (λ c κs. search needs) (λ c κs. search needs) (λ c. search needs) (λ c κs. search needs)
     (λ c. omega (arith, pixels-small _ _ (c .declared-pixels .ensures))) (λ c κs. search needs) returns-2 returns-3)

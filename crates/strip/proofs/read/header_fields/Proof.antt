@@ -5,12 +5,16 @@ use Rattle.strip.proofs.read.header_fields.Tie as tie
 
 returns : tie.Need-returns
 returns c =
-    let k = c .before in
+    let t = c .before in
+    let l = t .before in
+    let k = l .before in
     let h = k .before in
     let s = h .before in
     let w = s .before in
     simp (
-      c .low-half .ensures,
+      c .white-in .ensures,
+      t .word-at4 .ensures,
+      l .low-half .ensures,
       k .word-at3 .ensures,
       h .height-in .ensures,
       s .word-at2 .ensures,
@@ -23,4 +27,5 @@ header-fields-spec =
     tie.close
     (tie.spec
     (λ c κs. search needs) (λ c κs. search needs) (λ c. search needs) (λ c κs. search needs)
-    (λ c κs. search needs) (λ c. search needs) (λ c κs. search needs) (λ c κs. search needs) (λ c. search needs) returns)
+    (λ c κs. search needs) (λ c. search needs) (λ c κs. search needs) (λ c κs. search needs) (λ c. search needs)
+    (λ c κs. search needs) (λ c κs. search needs) returns)

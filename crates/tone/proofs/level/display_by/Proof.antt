@@ -5,7 +5,7 @@ use native.Mathlib.Nat.{add-sub-of-le}
 use native.Mathlib.Omega.{arith}
 use lib.ListN.{getD}
 use borrow.Author.Needs.{needs}
-use Rattle.tone.specs.Levels.{scaledOf, reinhard, displayOf}
+use Rattle.tone.specs.Levels.{scaledOf, curveOf, displayOf}
 use Rattle.tone.specs.Claims.{IsScaled}
 use Rattle.tone.specs.loops.ScaledTables.{scaledCode}
 use Rattle.tone.proofs.Scaled.{is-scaled}
@@ -29,10 +29,12 @@ module _ (c : tie.Start) where
 display-luminance-requires : tie.Need-display-luminance-requires
 display-luminance-requires c κs =
     let s = c .before .before .before in
-    subst IsScaled (sym (moved s .same)) (is-scaled _ _ (s .pre .1) (s .pre .2))
+    (s .pre .1 .white, subst IsScaled (sym (moved s .same)) (is-scaled _ _ (s .pre .1) (s .pre .2)))
 
 returns : tie.Need-returns
-returns c = c .display-luminance .ensures ∙ ap (displayOf reinhard) (moved (c .before .before .before .before) .same)
+returns c =
+    let s = c .before .before .before .before in
+    c .display-luminance .ensures ∙ ap (displayOf (curveOf (s .args .tone .white))) (moved s .same)
 
 pub display-by-spec : {M : Type 1} → statement M
 display-by-spec =
