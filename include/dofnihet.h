@@ -8,9 +8,12 @@
  * accepts, and then only in its front. No call keeps a pointer, allocates, or changes anything else, so calls on different memory may run
  * at once.
  *
- * Bands are strips of one width and one key, one behind another in one slice, nothing between or behind them: whole rows of one tall page,
- * the top band first. Each size word tells where the next band begins; words left over are checked as a band. One strip is one band. Calls
- * on bands answer for the tall page, however it is cut.
+ * A page may have a white point, the scaled luminance from which on a grey is white, level 255; it is told in tenths. Its strip carries it
+ * as third word and is one word longer.
+ *
+ * Bands are strips of one width, one key and one white point or none, one behind another in one slice, nothing between or behind them:
+ * whole rows of one tall page, the top band first. Each size word, with the white word if there is one, tells where the next band begins;
+ * words left over are checked as a band. One strip is one band. Calls on bands answer for the tall page, however it is cut.
  *
  * `number` is 0 where a call accepts; `place` is 0 then. A refusal has a number and a place: the index of the offending element or word for
  * 5 to 8, else 0. In bands a word's index counts from the slice's first word.
@@ -24,8 +27,9 @@
  *     7  foreign word    kind, spare bits or end count wrong
  *     8  wild channel    neither (0,0) nor exponent 72..184 with mantissa 128..255
  *     9  dark page       16 times the number of lit pixels below the number of pixels; only tallying and mapping refuse it
+ *    10  bad white       white point below 10 or above 1000 tenths
  *    20  no such row     row number not below the height
- *    21  unlike bands    width or key unlike the first band's, or the bands together above the limits of 1
+ *    21  unlike bands    width, key or white point unlike the first band's, or the bands together above the limits of 1
  *
  * Later versions add functions, and fields at the end of a struct; callers are then compiled anew.
  */
@@ -39,20 +43,28 @@
 extern "C" {
 #endif
 
-/* Largest width, height, number of pixels and key. */
+/* Largest width, height, number of pixels and key; smallest and largest white point, in tenths. */
 #define DOFNIHET_MAX_SIDE 8192
 #define DOFNIHET_MAX_PIXELS 16777216
 #define DOFNIHET_MAX_KEY 1000
+#define DOFNIHET_MIN_WHITE 10
+#define DOFNIHET_MAX_WHITE 1000
 
-/* Words of the strip of a page. */
+/* Words of the strip of a page without a white point, and of one with a white point. */
 #define DOFNIHET_STRIP_LENGTH(pixels) (3 * (size_t)(pixels) + 3)
+#define DOFNIHET_STRIP_LENGTH_WHITE(pixels) (3 * (size_t)(pixels) + 4)
 
-/* What a page is converted with. Write it by its fields' names, in C (dofnihet_page){ .width = 2, .height = 1, .key = 180 }: a field that a
- * later version adds stands at the end, and one that is not named is 0. */
+/* What a page is converted with. Where `white_present` is 0, it has no white point, and `white` is not looked at; any other number counts
+ * as 1, and `white` is the white point in tenths: 0 is then a bad white.
+ * Write it by its fields' names, in C (dofnihet_page){ .width = 2, .height = 1, .key = 180 } and, with a white point,
+ * (dofnihet_page){ .width = 2, .height = 1, .key = 180, .white_present = 1, .white = 30 }: a field that a later version adds stands at the
+ * end, and one that is not named is 0. */
 typedef struct {
     uint64_t width;
     uint64_t height;
     uint64_t key;
+    uint64_t white_present;
+    uint64_t white;
 } dofnihet_page;
 
 typedef struct {
@@ -66,6 +78,8 @@ typedef struct {
     uint64_t width;
     uint64_t height;
     uint64_t key;
+    uint64_t white_present;
+    uint64_t white;
 } dofnihet_header;
 
 typedef struct {
@@ -100,28 +114,28 @@ typedef struct {
 } dofnihet_tally;
 
 /* Converts a picture of RGBE pixels, four bytes R, G, B, e each, left to right, top row first.
- * The strip, DOFNIHET_STRIP_LENGTH(page.width * page.height) words, is left in the output's front.
- * Refuses with 1, 2, 3, 4, then the first byte that is too bright with 6. */
+ * The strip, DOFNIHET_STRIP_LENGTH(page.width * page.height) words or one more with a white point, is left in the output's front.
+ * Refuses with 1, 2, 10, 3, 4, then the first byte that is too bright with 6. */
 dofnihet_outcome dofnihet_convert_rgbe(const uint8_t *source, size_t source_len, dofnihet_page page, uint32_t *output, size_t output_len);
 
 /* Converts a picture of IEEE 754 half floats, three bit patterns R, G, B a pixel; zero and negative numbers become black.
- * The strip, DOFNIHET_STRIP_LENGTH(page.width * page.height) words, is left in the output's front.
- * Refuses with 1, 2, 3, 4, then the first element that is no number with 5. */
+ * The strip, DOFNIHET_STRIP_LENGTH(page.width * page.height) words or one more with a white point, is left in the output's front.
+ * Refuses with 1, 2, 10, 3, 4, then the first element that is no number with 5. */
 dofnihet_outcome dofnihet_convert_half(const uint16_t *source, size_t source_len, dofnihet_page page, uint32_t *output, size_t output_len);
 
 /* Converts a picture of IEEE 754 single floats, three bit patterns R, G, B a pixel; zero, negative and tiny numbers become black.
- * The strip, DOFNIHET_STRIP_LENGTH(page.width * page.height) words, is left in the output's front.
- * Refuses with 1, 2, 3, 4, then the first element that is no number with 5 or too bright with 6. */
+ * The strip, DOFNIHET_STRIP_LENGTH(page.width * page.height) words or one more with a white point, is left in the output's front.
+ * Refuses with 1, 2, 10, 3, 4, then the first element that is no number with 5 or too bright with 6. */
 dofnihet_outcome dofnihet_convert_single(const uint32_t *source, size_t source_len, dofnihet_page page, uint32_t *output, size_t output_len);
 
 /* Converts a picture of stored channels, 256 * exponent + mantissa each or 0 for black, three a pixel: what dofnihet_unpack writes.
- * The strip, DOFNIHET_STRIP_LENGTH(page.width * page.height) words, is left in the output's front.
- * Refuses with 1, 2, 3, 4, then the first element that is no channel with 8. */
+ * The strip, DOFNIHET_STRIP_LENGTH(page.width * page.height) words or one more with a white point, is left in the output's front.
+ * Refuses with 1, 2, 10, 3, 4, then the first element that is no channel with 8. */
 dofnihet_outcome dofnihet_convert_stored(const uint16_t *source, size_t source_len, dofnihet_page page, uint32_t *output, size_t output_len);
 
 /* Checks a strip: every other call on a strip makes the same checks itself.
  * Accepts it, or tells the first fault.
- * Refuses with 3, 7, 1, 7, 2, 3 of its header and length, then the first word with 7 or 8, the end word last. */
+ * Refuses with 3, 7, 1, 7, 2, 7, 10, 3 of its header and length, then the first word with 7 or 8, the end word last. */
 dofnihet_outcome dofnihet_check(const uint32_t *strip, size_t strip_len);
 
 /* Unpacks the channels of a strip, 256 * exponent + mantissa each or 0 for black, three a pixel.
@@ -134,8 +148,9 @@ dofnihet_outcome dofnihet_unpack(const uint32_t *strip, size_t strip_len, uint16
  * Refuses as dofnihet_check does, with 4 between length and words, and with 9 last. */
 dofnihet_outcome dofnihet_map(const uint32_t *strip, size_t strip_len, uint8_t *output, size_t output_len);
 
-/* Reads back width, height and key of a strip.
- * A refusal has 0 in all three.
+/* Reads back width, height, key and white point of a strip.
+ * `white_present` tells whether the strip has a white point, 1 or 0; `white` is the white point in tenths, 0 where there is none. A refusal
+ * has 0 in all five.
  * Refuses as dofnihet_check does. */
 dofnihet_header dofnihet_header_of(const uint32_t *strip, size_t strip_len);
 
@@ -157,8 +172,8 @@ dofnihet_step dofnihet_step_of(const uint32_t *strip, size_t strip_len, uint64_t
  * Refuses as dofnihet_check does, with 9 last. */
 dofnihet_tally dofnihet_tally_of(const uint32_t *strip, size_t strip_len);
 
-/* Reads back width and key of bands, and the height of all together.
- * A refusal has 0 in all three.
+/* Reads back width, key and white point of bands, and the height of all together.
+ * The fields are as dofnihet_header_of has them.
  * Refuses with 3 where there is no band; then, band by band, as dofnihet_check does (3 for a band that the slice cuts short), with 21
  * behind each band's own checks. */
 dofnihet_header dofnihet_header_of_bands(const uint32_t *bands, size_t bands_len);

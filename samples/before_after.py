@@ -1,9 +1,11 @@
 # Two pictures of one page, side by side, as a PNG. Run from the top folder:
 #
 #     python3 samples/before_after.py samples/relief.strip target/relief.ppm docs/relief.png
+#     python3 samples/before_after.py target/grey.ppm target/white.ppm docs/white.png
 #
-# Left, before: each channel of the strip clipped at 1.0. Right, after: the levels of the P6 picture that the
-# picture program made of the same strip. Neither half has a gamma. Only Python's standard library is used.
+# Each is a strip, of which every channel is clipped at 1.0, or a P6 picture, of which the levels are shown: those that
+# the picture program made of the strip, or of the strips of relief.py with key 5 and with key 5 and white point 38.
+# Neither half has a gamma. Only Python's standard library is used.
 import struct
 import sys
 import zlib
@@ -15,7 +17,7 @@ def clipped(strip):
     """Width, height and level bytes of a strip's channels, each clipped at 1.0."""
     words = struct.unpack("<%dI" % (len(strip) // 4), strip)
     levels = bytearray()
-    for word in words[2:-1]:
+    for word in words[3 if words[2] >> 28 == 3 else 2:-1]:  # a white word, of kind 3, stands before the channels
         exponent, mantissa = word >> 8 & 255, word & 255
         worth = (mantissa + 0.5) * 2.0 ** (exponent - 136) if word & 0xFFFF else 0.0
         levels.append(int(255 * min(1.0, worth) + 0.5))
@@ -29,6 +31,12 @@ def printed(ppm):
         sys.exit("not a P6 picture with levels 0 to 255")
     width, height = map(int, size.split())
     return width, height, levels
+
+
+def picture(path):
+    with open(path, "rb") as file:
+        content = file.read()
+    return printed(content) if content.startswith(b"P6") else clipped(content)
 
 
 def enlarged(levels, width, y):
@@ -52,12 +60,10 @@ def png(before, after, width, height):
 
 
 if len(sys.argv) != 4:
-    sys.exit("usage: before_after.py page.strip page.ppm out.png")
-with open(sys.argv[1], "rb") as file:
-    width, height, before = clipped(file.read())
-with open(sys.argv[2], "rb") as file:
-    *size, after = printed(file.read())
+    sys.exit("usage: before_after.py left.strip|left.ppm right.strip|right.ppm out.png")
+width, height, before = picture(sys.argv[1])
+*size, after = picture(sys.argv[2])
 if size != [width, height] or len(after) != len(before):
-    sys.exit("the strip and the picture are not of one page")
+    sys.exit("the pictures are not of one page")
 with open(sys.argv[3], "wb") as file:
     file.write(png(before, after, width, height))

@@ -1,6 +1,11 @@
 # A relief map of our own making, as a strip: an island with the sun low in the west. Run from the top folder:
 #
 #     python3 samples/relief.py > samples/relief.strip
+#     python3 samples/relief.py KEY > page.strip
+#     python3 samples/relief.py KEY WHITE > page.strip
+#
+# KEY is in thousandths, 180 where it is not given, and WHITE, the white point, in tenths; without it the strip has
+# none. Neither is checked here.
 #
 # A ridge with snow on it parts the island. West of it a plain and its river lie in the sun; east of it a second
 # plain and river lie in the ridge's shadow. Light is linear: up to 40 on the sunlit snow, 5 on the sunlit plain and
@@ -14,7 +19,7 @@ import struct
 import sys
 from fractions import Fraction
 
-WIDTH, HEIGHT, KEY = 84, 65, 180  # 5,460 pixels: the most that 65,536 bytes hold
+WIDTH, HEIGHT = 84, 65            # 5,460 pixels: the most that 65,536 bytes hold
 SUN, SKY = 44.0, 0.14             # light on a surface that faces the sun; light from the sky alone
 TO_SUN = (-0.94, -0.20, 0.27)     # east, south, up: the sun stands west, a little north, about 15 degrees high
 
@@ -120,7 +125,11 @@ def stored(light):
     return 256 * exponent + mantissa
 
 
-words = [1 << 28 | WIDTH << 14 | HEIGHT, 2 << 28 | KEY]
+if len(sys.argv) > 3:
+    sys.exit("usage: relief.py [KEY [WHITE]]")
+key, *white = map(int, sys.argv[1:] or [180])
+words = [1 << 28 | WIDTH << 14 | HEIGHT, 2 << 28 | key]
+words += [3 << 28 | tenths for tenths in white]
 words += [4 + i % 3 << 28 | stored(light) for i, light in enumerate(page())]
 words.append(7 << 28 | WIDTH * HEIGHT)
 sys.stdout.buffer.write(struct.pack("<%dI" % len(words), *words))

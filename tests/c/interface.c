@@ -1,5 +1,6 @@
 /* Every function of include/dofnihet.h called once accepted and, where it can refuse, once refused, with every field and element printed;
- * then pages with just enough lit pixels, and dark ones. `tests/c_interface` compares the output with interface.stdout. */
+ * then pages with just enough lit pixels, and dark ones; then pages and bands with a white point. `tests/c_interface` compares the output
+ * with interface.stdout. */
 #include "dofnihet.h"
 
 #include <inttypes.h>
@@ -60,8 +61,8 @@ static void conversions(void)
 
 static void print_header(const char *call, dofnihet_header told)
 {
-    printf("%s: %" PRIu64 " %" PRIu64 " %" PRIu64 " %" PRIu64 " %" PRIu64 "\n", call, told.number, told.place, told.width, told.height,
-           told.key);
+    printf("%s: %" PRIu64 " %" PRIu64 " %" PRIu64 " %" PRIu64 " %" PRIu64 " %" PRIu64 " %" PRIu64 "\n", call, told.number, told.place,
+           told.width, told.height, told.key, told.white_present, told.white);
 }
 
 static void print_row(const char *call, dofnihet_row told)
@@ -254,6 +255,104 @@ static void dark_bands(void)
     print_runs("map 1 and 0 lit of 16 into 95", dofnihet_map_bands(rows, words, levels, 95), levels, 96);
 }
 
+/* Converts greys 1.0 and 0.5, 2 x 1, with a white point; one word more than that of a strip with the white word is printed. */
+static void convert_white(const char *call, uint64_t white_present, uint64_t white, size_t room)
+{
+    const uint16_t halves[] = {0x3C00, 0x3C00, 0x3C00, 0x3800, 0x3800, 0x3800};
+    const dofnihet_page page = {.width = 2, .height = 1, .key = 180, .white_present = white_present, .white = white};
+    uint32_t output[DOFNIHET_STRIP_LENGTH_WHITE(2) + 1];
+    memset(output, OLD, sizeof output);
+    converted(call, dofnihet_convert_half(halves, 6, page, output, room), output, COUNT(output));
+}
+
+static void white_conversions(void)
+{
+    printf("lengths: %zu %zu\n", DOFNIHET_STRIP_LENGTH(2), DOFNIHET_STRIP_LENGTH_WHITE(2));
+    printf("white: %d to %d\n", DOFNIHET_MIN_WHITE, DOFNIHET_MAX_WHITE);
+    convert_white("white 10", 1, 10, 11);
+    convert_white("white 1000", 1, 1000, 10);
+    convert_white("white 30, present 2", 2, 30, 11);
+    convert_white("white 30, present 2^64 - 1", UINT64_MAX, 30, 11);
+    convert_white("white 30, present 0", 0, 30, 11);
+    convert_white("white 0, present 0", 0, 0, 9);
+    convert_white("white 0", 1, 0, 11);
+    convert_white("white 9", 1, 9, 11);
+    convert_white("white 1001", 1, 1001, 11);
+    convert_white("white 2^32 + 30", 1, 4294967326, 11);
+    convert_white("white 9 into 9 words", 1, 9, 9);
+    convert_white("white 10 into 9 words", 1, 10, 9);
+}
+
+/* The other sources with a white point: one pixel of channels (128,255). */
+static void white_sources(void)
+{
+    const uint8_t rgbe[] = {255, 255, 255, 128};
+    const uint32_t single[] = {0x3F800000, 0x3F800000, 0x3F800000};
+    const uint16_t stored[] = {0x80FF, 0x80FF, 0x80FF};
+    const dofnihet_page page = {.width = 1, .height = 1, .key = 180, .white_present = 1, .white = 30};
+    uint32_t output[DOFNIHET_STRIP_LENGTH_WHITE(1)];
+    memset(output, OLD, sizeof output);
+    converted("white rgbe", dofnihet_convert_rgbe(rgbe, 4, page, output, 7), output, 7);
+    memset(output, OLD, sizeof output);
+    converted("white single", dofnihet_convert_single(single, 3, page, output, 7), output, 7);
+    memset(output, OLD, sizeof output);
+    converted("white stored", dofnihet_convert_stored(stored, 3, page, output, 7), output, 7);
+}
+
+/* Greys 1.0 and 0.5 with the white point 1.0. */
+static const uint32_t white[] = {0x10008001, 0x200000B4, 0x3000000A, 0x400080FF, 0x500080FF, 0x600080FF,
+                                 0x40007FFF, 0x50007FFF, 0x60007FFF, 0x70000002};
+/* The same with a bad white, and with a spare bit. */
+static const uint32_t bad_white[] = {0x10008001, 0x200000B4, 0x30000009};
+static const uint32_t spare_white[] = {0x10008001, 0x200000B4, 0x30010009};
+
+/* With the white point 1.0 display luminance is the scaled one, L(1 + L)/(1 + L) = L, here (127,130) and (126,130): 255 * 130.5 / 512 is
+ * 64.995, and 255 * 130.5 / 1024 is 32.498. */
+static void white_readings(void)
+{
+    print_header("header white", dofnihet_header_of(white, COUNT(white)));
+    print_header("header bad white", dofnihet_header_of(bad_white, COUNT(bad_white)));
+    print_header("header spare white", dofnihet_header_of(spare_white, COUNT(spare_white)));
+    print_header("header cut white", dofnihet_header_of(white, COUNT(white) - 1));
+    print_row("row 0 white", dofnihet_row_of(white, COUNT(white), 0));
+    print_step("step 1 white", dofnihet_step_of(white, COUNT(white), 1));
+    print_tally("tally white", dofnihet_tally_of(white, COUNT(white)));
+    uint16_t codes[6];
+    print_codes("unpack white", dofnihet_unpack(white, COUNT(white), codes, COUNT(codes)), codes, COUNT(codes));
+    uint8_t levels[6];
+    print_levels("map white", dofnihet_map(white, COUNT(white), levels, COUNT(levels)), levels, COUNT(levels));
+}
+
+/* Greys 1.0 and 0.5, 1 x 2, as two bands of one pixel, each with a white point or, where it is 0, none. */
+static void white_bands(const char *call, uint32_t upper, uint32_t lower)
+{
+    const uint32_t whites[] = {upper, lower};
+    uint32_t rows[2 * DOFNIHET_STRIP_LENGTH_WHITE(1)];
+    size_t words = 0;
+    for (size_t band = 0; band < 2; band++) {
+        const uint16_t half = band == 0 ? 0x3C00 : 0x3800;
+        const uint16_t halves[] = {half, half, half};
+        const dofnihet_page page = {.width = 1, .height = 1, .key = 180, .white_present = whites[band] != 0, .white = whites[band]};
+        const size_t room = whites[band] == 0 ? DOFNIHET_STRIP_LENGTH(1) : DOFNIHET_STRIP_LENGTH_WHITE(1);
+        dofnihet_convert_half(halves, 3, page, rows + words, room);
+        words += room;
+    }
+    print_header(call, dofnihet_header_of_bands(rows, words));
+    print_tally(call, dofnihet_tally_of_bands(rows, words));
+    map_bands(call, rows, words, 6);
+}
+
+static void white_points(void)
+{
+    white_conversions();
+    white_sources();
+    white_readings();
+    white_bands("bands white 10 and 10", 10, 10);
+    white_bands("bands white 10 and 11", 10, 11);
+    white_bands("bands white 10 and none", 10, 0);
+    white_bands("bands white none and 10", 0, 10);
+}
+
 int main(void)
 {
     conversions();
@@ -263,5 +362,6 @@ int main(void)
     outputs_of_bands();
     dark_pages();
     dark_bands();
+    white_points();
     return 0;
 }

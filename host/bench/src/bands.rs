@@ -2,11 +2,9 @@
 
 use crate::clock::Clock;
 use crate::page::{self, Page};
-use crate::{KEY, SEED};
+use crate::{ACCEPTED, SEED};
 use dofnihet::{Header, Refusal, Source, Tally};
 use std::hint::black_box;
-
-const ACCEPTED: &str = "the page is accepted";
 
 /// A way to lay the page out in words, with the calls for it.
 struct Layout {
@@ -46,15 +44,14 @@ impl Layout {
 fn words(page: &Page, rows: usize) -> Vec<u32> {
     let mut words = Vec::new();
     for halves in page.halves.chunks(3 * page.width * rows) {
-        let pixels = halves.len() / 3;
-        let header = Header {
-            width: page.width as u64,
-            height: (pixels / page.width) as u64,
-            key: KEY,
+        let height = (halves.len() / 3 / page.width) as u64;
+        let band = Header {
+            height,
+            ..page.header(None)
         };
         let start = words.len();
-        words.resize(start + dofnihet::strip_length(pixels), 0);
-        dofnihet::convert(Source::Half(halves), header, &mut words[start..]).expect(ACCEPTED);
+        words.resize(start + band.strip_length(), 0);
+        dofnihet::convert(Source::Half(halves), band, &mut words[start..]).expect(ACCEPTED);
     }
     words
 }

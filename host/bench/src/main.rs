@@ -1,19 +1,21 @@
-//! Times the library beside the conventional method in double precision, on one thread and on the same pages, and bands beside a strip.
+//! Times the library beside the conventional method in double precision, on one thread and on the same pages, bands beside a strip, and a
+//! page with a white point beside the one without.
 
 mod bands;
 mod clock;
 mod double;
 mod machine;
 mod page;
+mod white;
 
 use clock::Clock;
-use dofnihet::{Header, Source};
-use page::Page;
+use dofnihet::Source;
+use page::{Page, KEY};
 use std::hint::black_box;
 
 const SEED: u64 = 20140906;
-/// The key, in thousandths.
-const KEY: u64 = 180;
+/// What is expected of every call.
+const ACCEPTED: &str = "the page is accepted";
 
 fn main() {
     println!("machine: {}", machine::model());
@@ -21,6 +23,8 @@ fn main() {
     run(8192, 2048, 8);
     run(100, 50, 2000);
     bands::run(2048, 8192, 8);
+    white::run(8192, 2048, 8);
+    white::run(100, 50, 2000);
     println!("peak memory of the run (VmHWM): {} MiB", machine::peak_memory() >> 20);
 }
 
@@ -102,22 +106,17 @@ fn round(page: &Page, buffers: &mut Buffers, clocks: &mut Clocks) {
 }
 
 fn library_round(page: &Page, strip: &mut [u32], levels: &mut [u8], clocks: &mut Clocks) {
-    let header = Header {
-        width: page.width as u64,
-        height: page.height as u64,
-        key: KEY,
-    };
-    let accepted = "the page is accepted";
+    let header = page.header(None);
     clocks
         .convert
-        .time(|| dofnihet::convert(Source::Half(&page.halves), header, strip).expect(accepted));
-    clocks.check.time(|| dofnihet::check(strip).expect(accepted));
-    clocks.tally.time(|| black_box(dofnihet::tally(strip).expect(accepted)));
-    clocks.map.time(|| dofnihet::map(strip, levels).expect(accepted));
+        .time(|| dofnihet::convert(Source::Half(&page.halves), header, strip).expect(ACCEPTED));
+    clocks.check.time(|| dofnihet::check(strip).expect(ACCEPTED));
+    clocks.tally.time(|| black_box(dofnihet::tally(strip).expect(ACCEPTED)));
+    clocks.map.time(|| dofnihet::map(strip, levels).expect(ACCEPTED));
     clocks.tone.time(|| {
-        dofnihet::check(strip).expect(accepted);
-        black_box(dofnihet::tally(strip).expect(accepted));
-        dofnihet::map(strip, levels).expect(accepted);
+        dofnihet::check(strip).expect(ACCEPTED);
+        black_box(dofnihet::tally(strip).expect(ACCEPTED));
+        dofnihet::map(strip, levels).expect(ACCEPTED);
     });
 }
 

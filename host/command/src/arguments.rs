@@ -31,6 +31,7 @@ pub enum Command {
     Convert {
         picture: Picture,
         key: u64,
+        white: Option<u64>,
         source: OsString,
         strip: OsString,
     },
@@ -81,13 +82,14 @@ pub fn parse(arguments: &[OsString]) -> Result<Command, String> {
 }
 
 fn convert(arguments: &[OsString]) -> Result<Command, String> {
-    let (words, [width, height, key]) = sort(arguments, ["--width", "--height", "--key"])?;
+    let (words, [width, height, key, white]) = sort(arguments, ["--width", "--height", "--key", "--white"])?;
     let [kind, source, strip] = exactly(words, "a kind, a source and a strip")?;
     let picture = picture(&kind, width, height)?;
     let key = key.ok_or("--key is missing")?;
     Ok(Command::Convert {
         picture,
         key,
+        white,
         source,
         strip,
     })

@@ -7,9 +7,9 @@ use dofnihet::{Refusal, MAX_PIXELS, MAX_SIDE};
 use std::ffi::{OsStr, OsString};
 use std::io::{self, Read};
 
-/// The most words to keep. An accepted row has no more than three words a pixel and three a band, and each band has a row of the page.
+/// The most words to keep. An accepted row has no more than three words a pixel and four a band, and each band has a row of the page.
 /// Behind it the library looks at one strip more at most, which it refuses.
-const LONGEST: usize = (3 * MAX_PIXELS + 3 * MAX_SIDE) + (3 * MAX_PIXELS + 3);
+const LONGEST: usize = (3 * MAX_PIXELS + 4 * MAX_SIDE) + (3 * MAX_PIXELS + 4);
 
 pub struct Bands {
     words: Vec<u32>,

@@ -24,10 +24,10 @@ pub fn write(strip: Vec<u32>, rows: u64, prefix: &OsStr) -> Result<(), Failure> 
 
 /// The strip of a band, by its channels and the page's header.
 fn band_strip(channels: &[u16], page: Header) -> Result<Vec<u32>, Failure> {
-    let pixels = channels.len() / 3;
-    let height = pixels as u64 / page.width;
-    let mut words = vec![0; dofnihet::strip_length(pixels)];
-    dofnihet::convert(Source::Stored(channels), Header { height, ..page }, &mut words)?;
+    let height = channels.len() as u64 / 3 / page.width;
+    let band = Header { height, ..page };
+    let mut words = vec![0; band.strip_length()];
+    dofnihet::convert(Source::Stored(channels), band, &mut words)?;
     Ok(words)
 }
 

@@ -3,8 +3,8 @@
 pub const ALL: &str = "\
 Dofnihet stores a high-dynamic-range page as a strip of 32-bit words, tallies its brightness and maps it to 24-bit levels.
 
-    dofnihet convert rgbe|half|single|stored --width W --height H --key K SOURCE STRIP
-    dofnihet convert pfm --key K SOURCE STRIP
+    dofnihet convert rgbe|half|single|stored --width W --height H --key K [--white TENTHS] SOURCE STRIP
+    dofnihet convert pfm --key K [--white TENTHS] SOURCE STRIP
     dofnihet tally STRIP
     dofnihet tally --bands STRIP..
     dofnihet map STRIP PICTURE
@@ -21,17 +21,17 @@ at all, and only where everything is accepted. An output that is standard output
 A strip is read to its end, since its byte count decides first: one whose byte count is no multiple of four is refused with 3,
 place 0, before any word is looked at.
 
-With --bands a page is given as bands of whole rows, the top one first, each a strip with the same width and key. A file has whole
-bands, one or more. The files' words are read one behind another; each size word tells where the next band begins. An empty file is
-refused with 3 too. A place counts from the first file's start. Behind the refusal stand the file and, where it has a place, the word in
-that file, from 0 on:
+With --bands a page is given as bands of whole rows, the top one first, each a strip with the same width, key and white point or
+none. A file has whole bands, one or more. The files' words are read one behind another; each size word, with the white word if there
+is one, tells where the next band begins. An empty file is refused with 3 too. A place counts from the first file's start. Behind the
+refusal stand the file and, where it has a place, the word in that file, from 0 on:
 
     refused 8 24 wild channel: b.strip word 6
     refused 21 0 unlike bands: b.strip
 
-21 is a width or key unlike the first band's, or bands that are too large together. A strip that is cut short takes the words of the
-next file for its own, so that word 0 of that file is foreign. Where the last file ends before the strip does, it is refused with 3,
-unless that word 0 stands in the place of its key word.
+21 is a width, key or white point unlike the first band's, or bands that are too large together. A strip that is cut short takes the
+words of the next file for its own, so that word 0 of that file is foreign. Where the last file ends before the strip does, it is
+refused with 3, unless that word 0 stands in the place of its key word.
 
 A page is dark where fewer than one pixel in sixteen is lit, as a photograph of the lens cap is. tally and map refuse it once all
 else is accepted; the other commands take it. Of bands the pixels of all count, and no file is told:
@@ -44,8 +44,8 @@ Exit status: 0 accepted; 1 refused, with a line such as 'refused 3 0 wrong lengt
 ";
 
 pub const CONVERT: &str = "\
-dofnihet convert rgbe|half|single|stored --width W --height H --key K SOURCE STRIP
-dofnihet convert pfm --key K SOURCE STRIP
+dofnihet convert rgbe|half|single|stored --width W --height H --key K [--white TENTHS] SOURCE STRIP
+dofnihet convert pfm --key K [--white TENTHS] SOURCE STRIP
 
 Converts a source picture into a strip: a file of 32-bit words, little-endian.
 
@@ -59,6 +59,16 @@ The first four have nothing before the elements, which run left to right, top ro
 turned. Of its scale only the sign is used, which tells the byte order; no float is multiplied by it.
 
 W and H are 1 to 8192, W * H at most 16777216. K, the key in thousandths, is 1 to 1000; 180 is usual.
+
+--white gives the page a white point: TENTHS, 10 to 1000, is ten times the scaled luminance that becomes white. What is brighter is
+white too; without a white point greys only crowd towards it. A luminance is scaled to K/1000 times what it is over the average. So,
+by the worths that dofnihet tally prints for the brightest luminance and the average (stored),
+
+    TENTHS = 10 * K/1000 * brightest / average
+
+makes a grey as bright as the brightest pixel just white, and no darker grey burns out. With the luminance of dull snow in place of
+the brightest, all snow burns out cleanly: the smaller TENTHS is, the more does. Where the brightest needs more than 1000, it burns out with every white
+point, and a lower key keeps it apart.
 
 The place of a refusal counts elements from 0 at the top left; RGBE elements are bytes, PFM elements are three floats a pixel in
 either kind.
@@ -93,7 +103,7 @@ To choose a key: a grey as bright as the average is scaled to K/1000 and comes o
 for 180. The worths tell how far the page goes below and above the average; a doubling is twice the worth. Far below the average
 each doubling down halves a grey's level, so details in deep shadows need a higher key, such as 360 or 720. Far above it greys crowd
 towards 255 and strong colours are cut there, so a page whose interest lies there, such as lamps at night, needs a lower one, such
-as 90.
+as 90. How to choose a white point by the worths: dofnihet convert --help.
 ";
 
 pub const MAP: &str = "\
@@ -114,11 +124,12 @@ pub const INFO: &str = "\
 dofnihet info STRIP
 dofnihet info --bands STRIP..
 
-Checks a strip, or all bands, and prints width, height, key and number of pixels of the page:
+Checks a strip, or all bands, and prints width, height, key, white point in tenths and number of pixels of the page:
 
     width 2
     height 1
     key 180
+    white none
     pixels 2
 ";
 

@@ -2,7 +2,7 @@
 //!
 //! Peak memory of a page, beside the program and its buffers, which are 2 MiB: `convert` holds source and strip, 12 + 4 (RGBE), 6 (half,
 //! stored) or 12 (single, PFM) bytes a pixel; `map` holds strip and levels, 12 + 3 bytes a pixel; `cut` holds strip and channels, 12 + 6
-//! bytes a pixel; the other commands hold the strip. Bands take what their page's strip takes, and twelve bytes a band.
+//! bytes a pixel; the other commands hold the strip. Bands take what their page's strip takes, and up to sixteen bytes a band.
 //! Measured on 16,777,216 pixels: 258, 290 and 386 MiB for `convert`, 242 MiB for `map`, 290 MiB for `cut`, 194 MiB for the others;
 //! with the page in bands, 128 files, the same to a MiB.
 //! Files with more words than any accepted bands have take 386 MiB, however long they are.
@@ -22,6 +22,7 @@ mod tally;
 mod worth;
 
 use arguments::{Command, Files, Picture};
+use dofnihet::Header;
 use failure::Failure;
 use page::Page;
 use std::env;
@@ -47,9 +48,10 @@ fn run(command: Command) -> Result<(), Failure> {
         Command::Convert {
             picture,
             key,
+            white,
             source,
             strip,
-        } => convert(picture, key, &source, &strip),
+        } => convert(picture, key, white, &source, &strip),
         Command::Tally { page } => tally(&page),
         Command::Map { page, picture } => map(&page, &picture),
         Command::Row { strip, y, output } => row(&strip, y, &output),
@@ -62,10 +64,11 @@ fn print(text: &str) -> Result<(), Failure> {
     files::write(OsStr::new("-"), |output| output.write_all(text.as_bytes()))
 }
 
-fn convert(picture: Picture, key: u64, source: &OsStr, strip: &OsStr) -> Result<(), Failure> {
+fn convert(picture: Picture, key: u64, white: Option<u64>, source: &OsStr, strip: &OsStr) -> Result<(), Failure> {
+    let header = |width, height| Header { width, height, key, white };
     let words = match picture {
-        Picture::Flat { kind, width, height } => source::flat(source, kind, dofnihet::Header { width, height, key })?,
-        Picture::Pfm => source::pfm(source, key)?,
+        Picture::Flat { kind, width, height } => source::flat(source, kind, header(width, height))?,
+        Picture::Pfm => source::pfm(source, header)?,
     };
     files::write(strip, |output| elements::write_words(output, &words))
 }
@@ -95,9 +98,10 @@ fn row(strip: &OsStr, y: u64, output: &OsStr) -> Result<(), Failure> {
 
 fn info(page: &Files) -> Result<(), Failure> {
     let header = Page::read(page)?.header()?;
-    let pixels = header.width * header.height;
+    let Header { width, height, key, white } = header;
+    let white = white.map_or("none".to_string(), |white| white.to_string());
+    let pixels = width * height;
     print(&format!(
-        "width {}\nheight {}\nkey {}\npixels {pixels}\n",
-        header.width, header.height, header.key
+        "width {width}\nheight {height}\nkey {key}\nwhite {white}\npixels {pixels}\n"
     ))
 }

@@ -1,4 +1,4 @@
-//! Source pictures into strips. The library refuses in its own order, and a source is read only where its size and key are accepted.
+//! Source pictures into strips. The library refuses in its own order, and a source is read only where its header is accepted.
 
 use crate::arguments::Kind;
 use crate::elements::{append, at_end, Element};
@@ -33,20 +33,19 @@ fn flat_of<T: Element>(
     strip(source(&elements.ok_or(wrong_length)?), header)
 }
 
-/// The strip of a PFM file.
-pub fn pfm(path: &OsStr, key: u64) -> Result<Vec<u32>, Failure> {
+/// The strip of a PFM file, by the header of its width and height.
+pub fn pfm(path: &OsStr, header: impl Fn(u64, u64) -> Header) -> Result<Vec<u32>, Failure> {
     let mut input = files::open(path)?;
     let read = |error| Failure::file("read", path, error);
     let no_pfm = || Failure::Wrong(format!("{} is no PFM file", path.display()));
     let front = pfm::front(&mut input).map_err(read)?.ok_or_else(no_pfm)?;
-    let (width, height) = (front.width, front.height);
-    let header = Header { width, height, key };
+    let header = header(front.width, front.height);
     let wrong_length = refusal_of_nothing(Source::Single(&[]), header)?;
     let singles = pfm::singles(&mut input, &front).map_err(read)?.ok_or(wrong_length)?;
     strip(Source::Single(&singles), header)
 }
 
-/// A source of no elements is refused with 1, 2 or 3. With 3, size and key are accepted, and a source of another wrong length is refused
+/// A source of no elements is refused with 1, 2, 10 or 3. With 3, the header is accepted, and a source of another wrong length is refused
 /// in the same way.
 fn refusal_of_nothing(nothing: Source, header: Header) -> Result<Refusal, Refusal> {
     match dofnihet::convert(nothing, header, &mut []) {
@@ -69,7 +68,7 @@ fn exactly<T: Element>(input: &mut dyn Read, count: usize) -> io::Result<Option<
 }
 
 fn strip(source: Source, header: Header) -> Result<Vec<u32>, Failure> {
-    let mut words = vec![0; dofnihet::strip_length(pixels(header))];
+    let mut words = vec![0; header.strip_length()];
     dofnihet::convert(source, header, &mut words)?;
     Ok(words)
 }

@@ -7,8 +7,8 @@ use std::ffi::OsStr;
 use std::io::{self, Read};
 
 /// The words of a strip file. It is read to its end, since its byte count decides first: where that is no multiple of four, no word is
-/// kept, and every call refuses with 3, place 0. Of a strip that is longer than its size word says, one word more is kept, so that
-/// its length is still wrong.
+/// kept, and every call refuses with 3, place 0. Of a strip that is longer than its first words say, one word too many is kept, so that its
+/// length is still wrong.
 pub fn read(path: &OsStr) -> Result<Vec<u32>, Failure> {
     let mut input = files::open(path)?;
     words(&mut input).map_err(|error| Failure::file("read", path, error))
@@ -16,7 +16,7 @@ pub fn read(path: &OsStr) -> Result<Vec<u32>, Failure> {
 
 fn words(input: &mut dyn Read) -> io::Result<Vec<u32>> {
     let mut words = Vec::new();
-    let mut left_over = append(input, &mut words, 2)? as u64;
+    let mut left_over = append(input, &mut words, 3)? as u64;
     let kept = kept(&words);
     words.reserve_exact(kept - words.len());
     left_over += append(input, &mut words, kept)? as u64;
@@ -27,13 +27,20 @@ fn words(input: &mut dyn Read) -> io::Result<Vec<u32>> {
     Ok(words)
 }
 
-/// How many words to keep of a strip that begins with these two. The library looks at both before the length: where it finds only the
-/// length wrong, the size is accepted; else it refuses every strip that begins so.
+/// How many words to keep of a strip that begins with these three, size, key and perhaps a white word. The library looks at them before the
+/// length: where it finds only that wrong, size, key and white point are accepted; else it refuses every strip that begins so.
 fn kept(first: &[u32]) -> usize {
     match dofnihet::check(first) {
-        Err(refusal) if refusal.number == 3 && first.len() == 2 => dofnihet::strip_length(pixels(first[0])) + 1,
-        _ => 2,
+        Err(refusal) if refusal.number == 3 && first.len() == 3 => {
+            dofnihet::strip_length(pixels(first[0])) + usize::from(is_white(first[2])) + 1
+        }
+        _ => first.len(),
     }
+}
+
+/// Whether a third word is a white word, of kind 3 in bits 31..28.
+fn is_white(third: u32) -> bool {
+    third >> 28 == 3
 }
 
 /// The pixels by a size word: width in bits 27..14, height in 13..0.
@@ -56,22 +63,35 @@ mod tests {
         words(&mut &bytes[..]).unwrap()
     }
 
+    /// The same with a white point.
+    fn white_strip() -> Vec<u32> {
+        [&STRIP[..2], &[0x3000000A], &STRIP[2..]].concat()
+    }
+
     #[test]
     fn a_whole_strip_is_kept() {
         assert_eq!(read(&STRIP, &[]), STRIP);
+        assert_eq!(read(&white_strip(), &[]), white_strip());
     }
 
     #[test]
-    fn one_word_more_than_declared_is_kept() {
-        let long = [&STRIP[..], &[1, 2, 3, 4]].concat();
-        assert_eq!(read(&long, &[]), long[..10]);
-        assert_eq!(read(&STRIP[..7], &[]), STRIP[..7]);
+    fn one_word_too_many_is_kept() {
+        for strip in [STRIP.to_vec(), white_strip()] {
+            let long = [&strip[..], &[1, 2, 3, 4]].concat();
+            assert_eq!(read(&long, &[]), long[..strip.len() + 1]);
+            assert_eq!(read(&strip[..7], &[]), strip[..7]);
+        }
     }
 
     #[test]
-    fn of_a_refused_header_two_words_are_kept() {
-        assert_eq!(read(&[0x1FFFFFFF, 0x200000B4, 5, 6], &[]), [0x1FFFFFFF, 0x200000B4]);
-        assert_eq!(read(&[0x10008001, 0x20000000, 5, 6], &[]), [0x10008001, 0x20000000]);
+    fn of_a_refused_header_three_words_are_kept() {
+        assert_eq!(read(&[0x1FFFFFFF, 0x200000B4, 5, 6], &[]), [0x1FFFFFFF, 0x200000B4, 5]);
+        assert_eq!(read(&[0x10008001, 0x20000000, 5, 6], &[]), [0x10008001, 0x20000000, 5]);
+        assert_eq!(
+            read(&[0x10008001, 0x200000B4, 0x30000009, 6], &[]),
+            [0x10008001, 0x200000B4, 0x30000009]
+        );
+        assert_eq!(read(&STRIP[..2], &[]), STRIP[..2]);
         assert_eq!(read(&STRIP[..1], &[]), STRIP[..1]);
         assert_eq!(read(&[], &[]), []);
     }

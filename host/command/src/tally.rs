@@ -43,8 +43,9 @@ fn table_entry(mantissa: u8) -> i64 {
         width: 1,
         height: 1,
         key: 180,
+        white: None,
     };
-    let mut strip = vec![0; dofnihet::strip_length(1)];
+    let mut strip = vec![0; one_pixel.strip_length()];
     let tally = dofnihet::convert(Source::Stored(&[channel; 3]), one_pixel, &mut strip).and_then(|()| dofnihet::tally(&strip));
     tally.expect("a mantissa is 128 to 255").sum
 }

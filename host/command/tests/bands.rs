@@ -4,11 +4,11 @@ use crate::common::{accepted, bytes32, greys, refused, strip, text, wrong, Folde
 use std::fs;
 
 /// Grey 1.0 above grey 0.5, two bands of one pixel: the pixels of `STRIP`.
-const TOP: [u32; 6] = [0x10004001, 0x200000B4, 0x400080FF, 0x500080FF, 0x600080FF, 0x70000001];
-const BOTTOM: [u32; 6] = [0x10004001, 0x200000B4, 0x40007FFF, 0x50007FFF, 0x60007FFF, 0x70000001];
+pub const TOP: [u32; 6] = [0x10004001, 0x200000B4, 0x400080FF, 0x500080FF, 0x600080FF, 0x70000001];
+pub const BOTTOM: [u32; 6] = [0x10004001, 0x200000B4, 0x40007FFF, 0x50007FFF, 0x60007FFF, 0x70000001];
 
 /// A band with one word changed.
-fn spoilt(mut band: [u32; 6], at: usize, word: u32) -> Vec<u32> {
+pub fn spoilt(mut band: [u32; 6], at: usize, word: u32) -> Vec<u32> {
     band[at] = word;
     band.to_vec()
 }
@@ -32,7 +32,7 @@ fn refused_by_all(test: &str, files: &[&[u8]], line: &str) {
 }
 
 /// The same for words.
-fn refused_words(test: &str, files: &[&[u32]], line: &str) {
+pub fn refused_words(test: &str, files: &[&[u32]], line: &str) {
     let files: Vec<Vec<u8>> = files.iter().map(|words| bytes32(words)).collect();
     let files: Vec<&[u8]> = files.iter().map(Vec::as_slice).collect();
     refused_by_all(test, &files, line);
@@ -45,7 +45,7 @@ fn two_bands_are_one_page() {
     assert_eq!(text(&["tally", "--bands", &top, &bottom], &[]), TALLY);
     assert_eq!(
         text(&["info", &top, &bottom, "--bands"], &[]),
-        "width 1\nheight 2\nkey 180\npixels 2\n"
+        "width 1\nheight 2\nkey 180\nwhite none\npixels 2\n"
     );
     let picture = folder.path("picture");
     accepted(&["map", &top, "--bands", &bottom, &picture], &[]);
@@ -60,7 +60,10 @@ fn files_are_read_into_one_row() {
     let both = bytes32(&[TOP, BOTTOM].concat());
     assert_eq!(text(&["tally", "--bands", "-"], &both), TALLY);
     assert_eq!(text(&["tally", "--bands", "-"], &bytes32(&STRIP)), TALLY);
-    assert_eq!(text(&["info", "--bands", "-"], &both), "width 1\nheight 2\nkey 180\npixels 2\n");
+    assert_eq!(
+        text(&["info", "--bands", "-"], &both),
+        "width 1\nheight 2\nkey 180\nwhite none\npixels 2\n"
+    );
 }
 
 /// Standard input among the files. It has nothing more where it is named again.

@@ -61,7 +61,7 @@ fn every_kind_gives_the_same_strip() {
 #[test]
 fn info_prints_the_header() {
     let strip = bytes32(&strip("half", 3, 2, 1000, &greys(&[0x3C00; 6])));
-    assert_eq!(text(&["info", "-"], &strip), "width 3\nheight 2\nkey 1000\npixels 6\n");
+    assert_eq!(text(&["info", "-"], &strip), "width 3\nheight 2\nkey 1000\nwhite none\npixels 6\n");
 }
 
 #[test]
@@ -264,5 +264,5 @@ fn map_answers_as_the_picture_program() {
         }
         cases += 1;
     }
-    assert_eq!(cases, 12);
+    assert_eq!(cases, 16);
 }

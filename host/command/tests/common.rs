@@ -122,6 +122,11 @@ brightest 128 255 worth 0.9980
 range 1.0 doublings
 ";
 
+/// The words of a strip with a white point in place of none.
+pub fn with_white(strip: &[u32], tenths: u32) -> Vec<u32> {
+    [&strip[..2], &[0x30000000 + tenths], &strip[2..]].concat()
+}
+
 /// What is printed for a dark page.
 pub const DARK: &str = "refused 9 0 dark page\nfewer than one pixel in sixteen is lit; look for the lens cap";
 

@@ -1,6 +1,6 @@
 //! Strips cut into bands, and the bands as one page again.
 
-use crate::common::{accepted, bytes32, greys, refused, strip, words, wrong, Folder, STRIP};
+use crate::common::{accepted, bytes32, greys, refused, strip, with_white, words, wrong, Folder, STRIP};
 use std::fs;
 
 const SAMPLE: &str = concat!(env!("CARGO_MANIFEST_DIR"), "/../../samples/relief.strip");
@@ -13,13 +13,13 @@ fn cut(strip: &str, rows: &str) -> (Folder, Vec<String>) {
     (folder, files)
 }
 
-/// The sample page, 84 x 65, has so many bands of so many rows, and the commands answer for them as for the whole.
-fn joined_again(rows: &str, bands: usize) {
-    let (folder, files) = cut(SAMPLE, rows);
+/// A strip has so many bands of so many rows, and the commands answer for them as for the whole.
+fn joined_again(strip: &str, rows: &str, bands: usize) {
+    let (folder, files) = cut(strip, rows);
     assert_eq!(files.len(), bands);
     let files: Vec<&str> = files.iter().map(String::as_str).collect();
     for command in ["tally", "info"] {
-        let whole = accepted(&[command, SAMPLE], &[]);
+        let whole = accepted(&[command, strip], &[]);
         assert_eq!(
             accepted(&[&[command, "--bands"], &files[..]].concat(), &[]),
             whole,
@@ -28,14 +28,24 @@ fn joined_again(rows: &str, bands: usize) {
     }
     let picture = folder.path("joined.ppm");
     accepted(&[&["map", "--bands"], &files[..], &[&picture]].concat(), &[]);
-    assert_eq!(fs::read(picture).unwrap(), accepted(&["map", SAMPLE, "-"], &[]), "{rows}");
+    assert_eq!(fs::read(picture).unwrap(), accepted(&["map", strip, "-"], &[]), "{rows}");
+}
+
+/// It has 84 x 65 pixels.
+#[test]
+fn the_sample_joined_again() {
+    joined_again(SAMPLE, "1", 65);
+    joined_again(SAMPLE, "7", 10);
+    joined_again(SAMPLE, "64", 2);
 }
 
 #[test]
-fn the_sample_joined_again() {
-    joined_again("1", 65);
-    joined_again("7", 10);
-    joined_again("64", 2);
+fn the_sample_with_a_white_point_joined_again() {
+    let folder = Folder::new("cut_white");
+    let sample = with_white(&words(&fs::read(SAMPLE).unwrap()), 100);
+    let sample = folder.file("white.strip", &bytes32(&sample));
+    joined_again(&sample, "2", 33);
+    joined_again(&sample, "33", 2);
 }
 
 /// Nine bands of 7 rows, 3 * 84 * 7 + 3 words each, and one of 2.

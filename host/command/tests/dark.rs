@@ -51,7 +51,7 @@ fn other_commands_take_a_dark_page() {
     let folder = Folder::new("dark_taken");
     let page = row(17, 1);
     let file = folder.file("page.strip", &bytes32(&page));
-    assert_eq!(text(&["info", &file], &[]), "width 17\nheight 1\nkey 180\npixels 17\n");
+    assert_eq!(text(&["info", &file], &[]), "width 17\nheight 1\nkey 180\nwhite none\npixels 17\n");
     assert_eq!(words(&accepted(&["row", &file, "0", "-"], &[])), page[2..53]);
     accepted(&["cut", &file, "1", &folder.path("")], &[]);
     assert_eq!(words(&fs::read(folder.path("001.strip")).unwrap()), page);
@@ -99,7 +99,7 @@ fn a_bright_band_of_a_dark_page() {
     refused(&["map", "--bands", &top, &bottom, &folder.path("page.ppm")], &[], DARK);
     assert_eq!(folder.names(), ["bottom", "top"]);
     let info = text(&["info", "--bands", &top, &bottom], &[]);
-    assert_eq!(info, "width 16\nheight 2\nkey 180\npixels 32\n");
+    assert_eq!(info, "width 16\nheight 2\nkey 180\nwhite none\npixels 32\n");
 }
 
 #[test]

@@ -11,3 +11,4 @@ mod pfm;
 mod refusals;
 mod sample;
 mod usage;
+mod white;

@@ -123,7 +123,10 @@ fn converted_and_mapped(name: &str) -> (Vec<f32>, Vec<u8>) {
     assert_eq!(floats.len(), 324);
     let bytes = accepted(&PFM, &file);
     assert_eq!(words(&bytes), strip("single", 12, 9, 180, &bits(&floats)), "{name}");
-    assert_eq!(text(&["info", "-"], &bytes), "width 12\nheight 9\nkey 180\npixels 108\n");
+    assert_eq!(
+        text(&["info", "-"], &bytes),
+        "width 12\nheight 9\nkey 180\nwhite none\npixels 108\n"
+    );
     let picture = accepted(&["map", "-", "-"], &bytes);
     let front = b"P6\n12 9\n255\n";
     assert!(picture.starts_with(front), "{name}");

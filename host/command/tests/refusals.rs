@@ -103,7 +103,7 @@ fn spoilt(at: usize, word: u32, line: &str) {
     refused_by_all(&bytes32(&words), line);
 }
 
-fn refused_by_all(strip: &[u8], line: &str) {
+pub fn refused_by_all(strip: &[u8], line: &str) {
     for arguments in [&["tally", "-"][..], &["info", "-"], &["map", "-", "-"], &["row", "-", "0", "-"]] {
         refused(arguments, strip, line);
     }

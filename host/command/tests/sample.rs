@@ -10,12 +10,13 @@ use std::process::Command;
 const STRIP: &[u8] = include_bytes!("../../../samples/relief.strip");
 const README: &str = include_str!("../../../README.md");
 
-/// A folder as the reader has it, with the sample page, a page of another width and a black one.
+/// A folder as the reader has it, with the sample page, a page of another width, a black one and a photograph of one grey pixel.
 fn readers_folder(name: &str) -> Folder {
     let folder = Folder::new(name);
     fs::create_dir(folder.path("samples")).unwrap();
     folder.file("samples/relief.strip", STRIP);
     folder.file("photo.strip", &bytes32(&common::STRIP));
+    folder.file("photo.pfm", b"Pf\n1 1\n-1.0\n\0\0\x80\x3F");
     folder.file("cap.strip", &bytes32(&common::strip("half", 1, 1, 180, &[0; 6])));
     folder
 }
@@ -63,6 +64,16 @@ fn readme_shows_the_page() {
         "dofnihet row samples/relief.strip 65 row.words",
     ];
     readme_shows(&readers_folder("readme_page"), &commands);
+}
+
+#[test]
+fn readme_shows_a_white_point() {
+    let commands = [
+        "dofnihet convert pfm --key 180 --white 30 photo.pfm photo.strip",
+        "dofnihet info photo.strip | grep white",
+        "dofnihet convert pfm --key 180 --white 9 photo.pfm photo.strip",
+    ];
+    readme_shows(&readers_folder("readme_white"), &commands);
 }
 
 /// A byte is damaged where README.md says so: the highest of word 6, which tells its kind.

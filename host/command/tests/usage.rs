@@ -30,11 +30,22 @@ fn wrong_usage() {
         (with(2, "--breadth"), "no option --breadth; see"),
         (with(2, "--key"), "--key is given twice; see"),
         ([&flat[..], &["--key"]].concat(), "--key has no number; see"),
+        (
+            [&flat[..], &["--white"]].concat(),
+            "--white has no number; see dofnihet convert --help",
+        ),
+        ([&flat[..], &["--white", "3.0"]].concat(), "--white is no whole number: 3.0; see"),
+        ([&flat[..], &["--white", "none"]].concat(), "--white is no whole number: none; see"),
+        (
+            [&flat[..], &["--white", "30", "--white", "30"]].concat(),
+            "--white is given twice; see",
+        ),
         (with(1, "pfm"), "a PFM file tells its width and height itself; see"),
         (vec!["convert", "pfm", "-", "-"], "--key is missing; see"),
         (vec!["tally"], "wanted: a strip; see dofnihet tally --help"),
         (vec!["tally", "-", "-"], "wanted: a strip; see"),
         (vec!["tally", "--key", "180", "-"], "no option --key; see"),
+        (vec!["map", "--white", "30", "-", "-"], "no option --white; see dofnihet map --help"),
         (vec!["info"], "wanted: a strip; see dofnihet info --help"),
         (vec!["map", "-"], "wanted: a strip and a picture; see dofnihet map --help"),
         (

@@ -25,6 +25,7 @@ impl Refusal {
             7 => "foreign word",
             8 => "wild channel",
             9 => "dark page",
+            10 => "bad white",
             20 => "no such row",
             21 => "unlike bands",
             _ => "unlisted",
@@ -45,20 +46,30 @@ impl fmt::Display for Refusal {
 
 impl std::error::Error for Refusal {}
 
+/// What a page is converted with, and what its strip tells back.
 #[derive(Clone, Copy, Debug, PartialEq, Eq)]
 pub struct Header {
     pub width: u64,
     pub height: u64,
     pub key: u64,
+    /// The white point in tenths, if there is one: ten times the scaled luminance from which on a grey is white.
+    pub white: Option<u64>,
 }
 
 impl Header {
+    /// The number of words of the strip of a page whose size is accepted.
+    pub fn strip_length(&self) -> usize {
+        strip_length((self.width * self.height) as usize) + usize::from(self.white.is_some())
+    }
+
     /// The struct that C takes in its place.
     fn page(self) -> raw::Page {
         raw::Page {
             width: self.width,
             height: self.height,
             key: self.key,
+            white_present: u64::from(self.white.is_some()),
+            white: self.white.unwrap_or(0),
         }
     }
 }
@@ -109,7 +120,7 @@ pub const MAX_SIDE: usize = 8192;
 /// The most pixels.
 pub const MAX_PIXELS: usize = 16_777_216;
 
-/// The number of words of the strip of a page.
+/// The number of words of the strip of a page without a white point; with one there is one more, as [`Header::strip_length`] tells.
 pub fn strip_length(pixels: usize) -> usize {
     3 * pixels + 3
 }
@@ -156,6 +167,7 @@ fn header_told(told: raw::Header) -> Result<Header, Refusal> {
         width: told.width,
         height: told.height,
         key: told.key,
+        white: (told.white_present == 1).then_some(told.white),
     };
     accepted(told.number, told.place, header)
 }
@@ -204,8 +216,8 @@ fn tally_told(told: raw::Tally) -> Result<Tally, Refusal> {
     accepted(told.number, told.place, tally)
 }
 
-/// The header of the one tall page that bands are: strips of one width and key, one behind another in one slice, the top one first. A
-/// refusal's place counts from the slice's start.
+/// The header of the one tall page that bands are: strips of one width, key and white point or none, one behind another in one slice, the
+/// top one first. A refusal's place counts from the slice's start.
 pub fn header_of_bands(bands: &[u32]) -> Result<Header, Refusal> {
     header_told(raw::header_of_bands(bands))
 }

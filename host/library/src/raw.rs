@@ -8,6 +8,8 @@ pub struct Page {
     pub width: u64,
     pub height: u64,
     pub key: u64,
+    pub white_present: u64,
+    pub white: u64,
 }
 
 #[repr(C)]
@@ -25,6 +27,8 @@ pub struct Header {
     pub width: u64,
     pub height: u64,
     pub key: u64,
+    pub white_present: u64,
+    pub white: u64,
 }
 
 #[repr(C)]
