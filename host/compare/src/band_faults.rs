@@ -1,10 +1,10 @@
 //! Faults of a row of three bands and of the output, one or several at once, and which of them the request puts first.
 
-use crate::bands;
 use crate::compare::{Told, ACCEPTED};
 use crate::damage;
 use crate::light::DARK;
-use crate::strip_faults::{self, answer, order, Asked};
+use crate::pages::{self, Page};
+use crate::strip_faults::{self, answer, is_of_white, order, words, Asked};
 
 #[derive(Clone, Copy, Debug, PartialEq, Eq)]
 pub enum Fault {
@@ -14,6 +14,8 @@ pub enum Fault {
     Width(usize, u32),
     /// A key that this band has alone.
     Key(usize, u32),
+    /// A white point, or none, that this band has alone.
+    White(usize, Option<u64>),
     /// A black band lies before the three, so high that this one is the first to pass the greatest height.
     Above(usize),
     /// The row ends behind so many words of this band.
@@ -25,17 +27,27 @@ pub enum Fault {
 }
 
 const BANDS: usize = 3;
-/// Words of one of the three, a 2 x 2 page.
-const WORDS: usize = 15;
 
 /// The height of the black band before the three: with this one they pass 8,192 by a row.
 fn height_above(band: usize) -> u64 {
     8193 - 2 * (band as u64 + 1)
 }
 
-/// The three bands, what lies before them, and an output that is exact but for a fault.
+/// The white point of each of the three.
+fn whites(faults: &[Fault], white: Option<u64>) -> [Option<u64>; BANDS] {
+    let mut whites = [white; BANDS];
+    for fault in faults {
+        if let Fault::White(band, other) = *fault {
+            whites[band] = other;
+        }
+    }
+    whites
+}
+
+/// The three bands, 2 x 2 pages with the white point or with none, what lies before them, and an output that is exact but for a fault.
 #[derive(Clone, Debug)]
 pub struct Case {
+    white: Option<u64>,
     above: Option<usize>,
     bands: [strip_faults::Case; BANDS],
     cut: Option<(usize, usize)>,
@@ -43,10 +55,11 @@ pub struct Case {
 }
 
 impl Case {
-    pub fn new(faults: &[Fault]) -> Case {
+    pub fn new(faults: &[Fault], white: Option<u64>) -> Case {
         let mut case = Case {
+            white,
             above: None,
-            bands: [0; BANDS].map(|_| strip_faults::Case::sound()),
+            bands: whites(faults, white).map(strip_faults::Case::sound),
             cut: None,
             fewer: 0,
         };
@@ -61,6 +74,7 @@ impl Case {
             Fault::In(band, fault) => self.bands[band].put(fault),
             Fault::Width(band, width) => self.bands[band].put(strip_faults::Fault::Size(width, 4 / width)),
             Fault::Key(band, key) => self.bands[band].put(strip_faults::Fault::Key(key)),
+            Fault::White(..) => (),
             Fault::Above(band) => self.above = Some(band),
             Fault::Cut(band, words) => self.cut = Some((band, words)),
             Fault::Room(fewer) => self.fewer = fewer,
@@ -70,10 +84,10 @@ impl Case {
 
     /// The bands as they lie in the row.
     pub fn row(&self) -> Vec<u32> {
-        let mut row = self.above.map_or(Vec::new(), |band| bands::black(2, &[height_above(band)]));
-        let end = self.cut.map_or(BANDS * WORDS, |(band, words)| band * WORDS + words);
-        let three = self.bands.iter().flat_map(|band| &band.strip);
-        row.extend(three.take(end));
+        let mut row = self.above.map_or(Vec::new(), |band| black(height_above(band), self.white));
+        let (last, words) = self.cut.unwrap_or((BANDS, 0));
+        row.extend(self.bands[..last].iter().flat_map(|band| &band.strip));
+        row.extend(self.bands.iter().skip(last).take(1).flat_map(|band| &band.strip[..words]));
         row
     }
 
@@ -83,10 +97,16 @@ impl Case {
     }
 }
 
-/// Every fault on its own. Those that blacken words come first.
-pub fn faults() -> Vec<Fault> {
+/// A black band of the width 2.
+fn black(height: u64, white: Option<u64>) -> Vec<u32> {
+    let channels = vec![0; 6 * height as usize];
+    Page::new(pages::header(2, height, 180), channels).with_white(white).strip()
+}
+
+/// Every fault of such a row on its own. Those that blacken words come first.
+pub fn faults(white: Option<u64>) -> Vec<Fault> {
     use strip_faults::Fault::{Dark, Length, Room, Row, Short};
-    let of_strip: Vec<strip_faults::Fault> = strip_faults::faults()
+    let of_strip: Vec<strip_faults::Fault> = strip_faults::faults(white)
         .into_iter()
         .filter(|fault| !matches!(fault, Row(_) | Room(_) | Length(_) | Short(_) | Dark))
         .collect();
@@ -98,6 +118,8 @@ pub fn faults() -> Vec<Fault> {
         list.extend(of_strip.iter().map(|fault| Fault::In(band, *fault)));
         list.extend([1, 4].map(|width| Fault::Width(band, width)));
         list.extend([1, 181, 1000].map(|key| Fault::Key(band, key)));
+        let others = [None, Some(10), Some(286), Some(1000)].into_iter().filter(|other| *other != white);
+        list.extend(others.map(|other| Fault::White(band, other)));
         list.push(Fault::Above(band));
         list.extend([1, 2, 3, 14].map(|words| Fault::Cut(band, words)));
     }
@@ -112,7 +134,9 @@ pub fn together(one: Fault, other: Fault) -> bool {
         (Fault::In(band, fault), Fault::In(other, another)) => band != other || strip_faults::together(fault, another),
         (Fault::Width(band, _), Fault::Width(other, _) | Fault::In(other, Size(..))) => band != other,
         (Fault::Key(band, _), Fault::Key(other, _) | Fault::In(other, Key(_))) => band != other,
-        (Fault::In(..), Fault::Width(..) | Fault::Key(..)) => together(other, one),
+        (Fault::White(band, _), Fault::White(other, _)) => band != other,
+        (Fault::White(band, _), Fault::In(other, fault)) => band != other || !is_of_white(fault),
+        (Fault::In(..), Fault::Width(..) | Fault::Key(..) | Fault::White(..)) => together(other, one),
         (Fault::Above(_), Fault::Above(_) | Fault::Cut(0, 0)) | (Fault::Cut(0, 0), Fault::Above(_)) => false,
         (Fault::Cut(..), Fault::Cut(..)) | (Fault::Room(_), Fault::Room(_)) | (Fault::Black(..), Fault::Black(..)) => false,
         _ => true,
@@ -129,21 +153,28 @@ pub fn alone_and_in_pairs(list: &[Fault]) -> Vec<Vec<Fault>> {
 /// Where a fault is asked for: the band, whether behind the band's own checks, and where among those; behind all bands dark, then room.
 type Stage = (usize, bool, usize);
 
-/// Where a fault is asked for, and what is told then; not of widths and keys, which must be held against the first band's.
-fn asked(fault: Fault, start: u64) -> Option<(Stage, Told)> {
+/// Where a fault is asked for, and what is told then, for bands of these white points of which the first begins at `start`; not of widths,
+/// keys and white points, which must be held against the first band's.
+fn asked(fault: Fault, whites: &[Option<u64>; BANDS], start: u64) -> Option<(Stage, Told)> {
     match fault {
-        Fault::In(band, fault) => Some(((band, false, order(fault)), moved(answer(fault), start + (band * WORDS) as u64))),
-        Fault::Cut(band, words) => {
-            let fault = match words {
-                0 | 1 => strip_faults::Fault::Short(words),
-                _ => strip_faults::Fault::Length(words as i64 - WORDS as i64),
+        Fault::In(band, fault) => {
+            let before: usize = whites[..band].iter().map(|white| words(*white)).sum();
+            Some((
+                (band, false, order(fault)),
+                moved(answer(fault, whites[band]), start + before as u64),
+            ))
+        }
+        Fault::Cut(band, count) => {
+            let fault = match count {
+                0 | 1 => strip_faults::Fault::Short(count),
+                _ => strip_faults::Fault::Length(count as i64 - words(whites[band]) as i64),
             };
-            Some(((band, false, order(fault)), answer(fault)))
+            Some(((band, false, order(fault)), answer(fault, whites[band])))
         }
         Fault::Above(band) => Some(((band, true, 0), (21, 0))),
         Fault::Black(0, BANDS) => Some(((BANDS, false, 0), DARK)),
         Fault::Room(_) => Some(((BANDS, true, 0), (4, 0))),
-        Fault::Width(..) | Fault::Key(..) | Fault::Black(..) => None,
+        Fault::Width(..) | Fault::Key(..) | Fault::White(..) | Fault::Black(..) => None,
     }
 }
 
@@ -156,12 +187,13 @@ fn moved((number, place): Told, start: u64) -> Told {
 }
 
 /// The first band that is unlike the first of the row.
-fn unlike(faults: &[Fault], above: bool) -> Option<(Stage, Told)> {
-    let mut kinds = vec![(2, 180); BANDS + above as usize];
+fn unlike(faults: &[Fault], above: bool, white: Option<u64>) -> Option<(Stage, Told)> {
+    let mut kinds = vec![(2, 180, white); BANDS + above as usize];
     for fault in faults {
         match *fault {
             Fault::Width(band, width) => kinds[band + above as usize].0 = width,
             Fault::Key(band, key) => kinds[band + above as usize].1 = key,
+            Fault::White(band, white) => kinds[band + above as usize].2 = white,
             _ => (),
         }
     }
@@ -178,14 +210,27 @@ fn seen(fault: Fault, asked: Asked) -> bool {
     }
 }
 
+/// Whether the row ends before the white word that the fault is of.
+fn is_cut_off(fault: Fault, faults: &[Fault]) -> bool {
+    match fault {
+        Fault::In(band, fault) => is_of_white(fault) && faults.contains(&Fault::Cut(band, 2)),
+        _ => false,
+    }
+}
+
 /// What is told where these faults, and no others, are there; the header is asked for as a strip's check.
-pub fn first(faults: &[Fault], asked_for: Asked) -> Told {
+pub fn first(faults: &[Fault], asked_for: Asked, white: Option<u64>) -> Told {
     let above = faults.iter().find_map(|fault| match fault {
         Fault::Above(band) => Some(*band),
         _ => None,
     });
-    let start = above.map_or(0, |band| dofnihet::strip_length(2 * height_above(band) as usize)) as u64;
-    let seen = faults.iter().filter(|fault| seen(**fault, asked_for));
-    let all = seen.filter_map(|fault| asked(*fault, start)).chain(unlike(faults, above.is_some()));
+    let start = above.map_or(0, |band| black(height_above(band), white).len()) as u64;
+    let whites = whites(faults, white);
+    let seen = faults
+        .iter()
+        .filter(|fault| seen(**fault, asked_for) && !is_cut_off(**fault, faults));
+    let all = seen
+        .filter_map(|fault| asked(*fault, &whites, start))
+        .chain(unlike(faults, above.is_some(), white));
     all.min_by_key(|(stage, _)| *stage).map_or(ACCEPTED, |(_, told)| told)
 }

@@ -2,6 +2,7 @@
 
 use crate::pages::{self, Look, Page, LOOKS};
 use crate::random::Random;
+use dofnihet::Header;
 
 /// Cut above each row that is asked for; the first is never.
 fn cut(height: u64, mut above: impl FnMut(u64) -> bool) -> Vec<u64> {
@@ -34,22 +35,25 @@ pub fn single_rows(height: u64) -> Vec<u64> {
 
 /// The bands of a page cut into these heights.
 pub fn row(page: &Page, heights: &[u64]) -> Vec<u32> {
-    let mut row = Vec::with_capacity(page.channels.len() + 3 * heights.len());
+    let mut row = Vec::with_capacity(page.channels.len() + 4 * heights.len());
     let mut rest = &page.channels[..];
     for &height in heights {
         let (channels, below) = rest.split_at(3 * (page.width * height) as usize);
         rest = below;
-        row.extend(Page::new(pages::header(page.width, height, page.key), channels.to_vec()).strip());
+        row.extend(Page::new(Header { height, ..page.header() }, channels.to_vec()).strip());
     }
     row
 }
 
-/// The strips that lie one behind another in a sound row.
+/// The strips that lie one behind another in a row, as far as they are whole.
 pub fn strips(row: &[u32]) -> Vec<&[u32]> {
     let (mut list, mut rest) = (Vec::new(), row);
     while let Some(size) = rest.first() {
         let pixels = (size >> 14 & 0x3FFF) * (size & 0x3FFF);
-        let (strip, below) = rest.split_at(dofnihet::strip_length(pixels as usize));
+        let length = dofnihet::strip_length(pixels as usize) + pages::has_white(rest) as usize;
+        let Some((strip, below)) = rest.split_at_checked(length) else {
+            break;
+        };
         list.push(strip);
         rest = below;
     }
@@ -92,7 +96,7 @@ pub fn page(random: &mut Random) -> Page {
     page
 }
 
-/// Two to four small pages whose widths and keys may differ; sometimes most of them are black.
+/// Two to four small pages whose widths, keys and white points may differ; sometimes most of them are black.
 pub fn several(random: &mut Random) -> Vec<Page> {
     let count = random.between(2, 4);
     let odd = random.between(2, 5);
@@ -101,12 +105,13 @@ pub fn several(random: &mut Random) -> Vec<Page> {
     } else {
         &LOOKS
     };
+    let (white, other) = (pages::white(random), pages::white(random));
     let one = |random: &mut Random| {
         let (width, height) = (2 - random.one_in(odd) as u64, random.between(1, 3));
         let look = random.pick(looks);
         let mut page = pages::page(random, look, width, height);
         page.key = 180 + random.one_in(odd) as u64;
-        page
+        page.with_white(if random.one_in(2 * odd) { other } else { white })
     };
     (0..count).map(|_| one(random)).collect()
 }

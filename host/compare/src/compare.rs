@@ -5,6 +5,7 @@ use crate::counts::Counts;
 use crate::elements::Elements;
 use crate::lent::{Element, Lent};
 use crate::light::Light;
+use crate::pages::{channel_words, has_white};
 use crate::random::Random;
 use dofnihet::raw::{Header as RawHeader, Outcome, Row, Step, Tally};
 use dofnihet::{Header, Source};
@@ -56,14 +57,7 @@ impl<'a> Compare<'a> {
 
     /// Converting into an output of so many words; the strip is the outcome where both accept.
     pub fn convert_into(&mut self, source: Source, header: Header, room: usize) -> Result<(Told, Vec<u32>), Difference> {
-        let Header { width, height, key } = header;
-        let asked = second::Header {
-            width,
-            height,
-            key,
-            white: None,
-        };
-        let expected = self.second.convert(second_source(source), asked, room);
+        let expected = self.second.convert(second_source(source), second_header(header), room);
         let read = Elements::copy(source);
         let mut output = self.lend::<u32>(room);
         let outcome = self.calls.convert(read.source(), header, output.output());
@@ -77,8 +71,9 @@ impl<'a> Compare<'a> {
 
     /// Converting into outputs longer than needed, exact, too short by one, and empty.
     pub fn convert(&mut self, source: Source, header: Header) -> Result<(Told, Vec<u32>), Difference> {
-        let (told, strip) = self.convert_into(source, header, source_room(source) + 7)?;
-        let needed = if told == ACCEPTED { strip.len() } else { source_room(source) };
+        let room = source_room(source, header);
+        let (told, strip) = self.convert_into(source, header, room + 7)?;
+        let needed = if told == ACCEPTED { strip.len() } else { room };
         for room in other_rooms(needed) {
             self.convert_into(source, header, room)?;
         }
@@ -158,7 +153,7 @@ impl<'a> Compare<'a> {
             self.step(strip, n)?;
         }
         let tally = self.tally(strip)?;
-        let needed = strip.len().saturating_sub(3);
+        let needed = strip.len().saturating_sub(3 + has_white(strip) as usize);
         self.unpack(strip, needed + 7)?;
         let (told, levels) = self.map(strip, needed + 7)?;
         for room in other_rooms(needed) {
@@ -173,7 +168,7 @@ impl<'a> Compare<'a> {
 
     /// A sound strip by its lit pixels: tally and map refuse it as dark, or demand 3 holds.
     pub(crate) fn page(&mut self, strip: &[u32], told: Told, tally: &Tally, levels: &[u8]) -> Result<(), Difference> {
-        let light = Light::of(&strip[2..strip.len() - 1]);
+        let light = Light::of(channel_words(strip));
         self.counts.light(light);
         if [told, (tally.number, tally.place)] != [light.told(); 2] {
             return Err(Difference(format!("{light:?} does not tell {told:?} of {}", show_strip(strip))));
@@ -187,6 +182,7 @@ impl<'a> Compare<'a> {
     /// Demand 3 on an accepted page, with the average and levels that the library told.
     fn demand(&mut self, strip: &[u32], tally: &Tally, levels: &[u8]) -> Result<(), Difference> {
         self.counts.pages += 1;
+        self.counts.white += has_white(strip) as u64;
         self.counts.pixels += levels.len() as u64 / 3;
         if !is_whole(tally) {
             return Err(Difference(format!("{tally:?} lacks a number of {}", show_strip(strip))));
@@ -292,16 +288,19 @@ pub(crate) fn told<T>(answer: &Result<T, Refusal>) -> Told {
     }
 }
 
-/// The five fields of a header; free fields are 0.
+/// The seven fields of a header; free fields are 0.
 pub fn raw_header(answer: &Result<second::Header, Refusal>) -> RawHeader {
     let (number, place) = told(answer);
     let (width, height, key) = answer.as_ref().map_or((0, 0, 0), |h| (h.width, h.height, h.key));
+    let white = answer.as_ref().ok().and_then(|h| h.white);
     RawHeader {
         number,
         place,
         width,
         height,
         key,
+        white_present: white.is_some() as u64,
+        white: white.unwrap_or(0),
     }
 }
 
@@ -354,6 +353,11 @@ fn parts(number: second::Number) -> (u64, u64) {
     (number.exponent as u64, number.mantissa as u64)
 }
 
+pub fn second_header(header: Header) -> second::Header {
+    let Header { width, height, key, white } = header;
+    second::Header { width, height, key, white }
+}
+
 pub fn second_source(source: Source) -> second::Source {
     match source {
         Source::Rgbe(list) => second::Source::Rgbe(list),
@@ -364,13 +368,13 @@ pub fn second_source(source: Source) -> second::Source {
 }
 
 /// Words that the strip of a source of this length needs.
-fn source_room(source: Source) -> usize {
+fn source_room(source: Source, header: Header) -> usize {
     let pixels = match source {
         Source::Rgbe(list) => list.len() / 4,
         Source::Half(list) | Source::Stored(list) => list.len() / 3,
         Source::Single(list) => list.len() / 3,
     };
-    dofnihet::strip_length(pixels)
+    dofnihet::strip_length(pixels) + header.white.is_some() as usize
 }
 
 /// Outputs beside the longer one: exact, too short by one, empty; on a long page only too short by one.
@@ -433,7 +437,7 @@ pub fn unchanged<T: PartialEq + ?Sized>(before: &T, after: &T, what: &dyn Fn() -
 }
 
 fn show(header: &Header) -> String {
-    format!("{} x {} key {}", header.width, header.height, header.key)
+    format!("{} x {} key {} white {:?}", header.width, header.height, header.key, header.white)
 }
 
 /// The start of a source.

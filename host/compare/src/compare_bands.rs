@@ -2,7 +2,7 @@
 
 use crate::bands;
 use crate::compare::{different, equal, other_rooms, raw_header, raw_tally, show_strip, told, Compare, Difference, Told};
-use crate::pages::Page;
+use crate::pages::{channel_words, Page};
 use dofnihet::raw::{Header, Tally};
 
 impl Compare<'_> {
@@ -61,7 +61,7 @@ impl Compare<'_> {
         if of_tall != (header, tally) {
             return Err(different(&what, format!("{of_tall:?} is not {:?}", (header, tally))));
         }
-        let of_tall = self.map(&tall, tall.len() - 3)?;
+        let of_tall = self.map(&tall, channel_words(&tall).len())?;
         if of_tall != mapped {
             return Err(different(&what, format!("levels {of_tall:?} are not {mapped:?}")));
         }

@@ -8,8 +8,10 @@ pub struct Counts {
     /// Calls made on both sides, and those that both refused.
     pub calls: u64,
     pub refused: u64,
-    /// Accepted strips and rows of bands whose levels were compared, their pixels, and those levels whose distance was measured.
+    /// Accepted strips and rows of bands whose levels were compared, those with a white point, their pixels, and those levels whose
+    /// distance was measured.
     pub pages: u64,
+    pub white: u64,
     pub pixels: u64,
     pub levels: u64,
     /// Dark ones, and those, dark or accepted, of which one lit pixel more or fewer decides.
@@ -29,6 +31,7 @@ impl Counts {
             calls: 0,
             refused: 0,
             pages: 0,
+            white: 0,
             pixels: 0,
             levels: 0,
             dark: 0,
@@ -44,6 +47,7 @@ impl Counts {
         self.calls += other.calls;
         self.refused += other.refused;
         self.pages += other.pages;
+        self.white += other.white;
         self.pixels += other.pixels;
         self.levels += other.levels;
         self.dark += other.dark;
@@ -70,7 +74,11 @@ impl fmt::Display for Counts {
     fn fmt(&self, f: &mut fmt::Formatter) -> fmt::Result {
         write!(f, "{} calls ({} refused)", self.calls, self.refused)?;
         if self.pages > 0 {
-            write!(f, ", {} pages, {} pixels", self.pages, self.pixels)?;
+            write!(
+                f,
+                ", {} pages ({} with a white point), {} pixels",
+                self.pages, self.white, self.pixels
+            )?;
         }
         if self.dark + self.edge > 0 {
             write!(f, ", {} dark, {} at the edge", self.dark, self.edge)?;

@@ -1,5 +1,6 @@
 //! Strips that were sound, damaged.
 
+use crate::pages::WHITE_KIND;
 use crate::random::Random;
 
 /// Every strip that differs from this one in one word: each bit flipped, each other kind, and words that stand elsewhere.
@@ -9,6 +10,7 @@ pub fn one_word(strip: &[u32], place: usize) -> Vec<u32> {
     list.extend((0..16).map(|kind| word & 0x0FFF_FFFF | kind << 28));
     list.extend([0, u32::MAX, !word, word.swap_bytes(), word.wrapping_add(1), word.wrapping_sub(1)]);
     list.extend(strip.iter());
+    list.extend([0, 9, 10, 20, 1000, 1001, 0xFFFF, 1 << 16 | 20, 1 << 27 | 20, 0x0FFF_0000].map(|low| WHITE_KIND | low));
     list.extend([0x4700, 0x4780, 0x47FF, 0x4800, 0x487F, 0xB87F, 0xB980, 0xFFFF, 0x0080, 0x00FF].map(|low| word & 0xFFFF_0000 | low));
     list.sort_unstable();
     list.dedup();
@@ -45,7 +47,7 @@ fn change(random: &mut Random, strip: &mut Vec<u32>) {
         return;
     }
     let place = random.below(count) as usize;
-    match random.below(9) {
+    match random.below(12) {
         0 => strip[place] = random.bits() as u32,
         1 => strip.truncate(place),
         2 => strip.push(random.bits() as u32),
@@ -53,8 +55,17 @@ fn change(random: &mut Random, strip: &mut Vec<u32>) {
         4 => strip[place] = strip[place] & 0xFFFF_0000 | random.below(65536) as u32,
         5 => strip[place] = strip[place] & 0x0FFF_FFFF | (random.below(16) as u32) << 28,
         6 => blacken(&mut strip[place..]),
+        7 => _ = strip.remove(place),
+        8 => strip.insert(place, strip[place]),
+        9 => strip.insert(2.min(strip.len()), white_word(random)),
         _ => strip[place] ^= 1 << random.below(32),
     }
+}
+
+/// A white word whose W is good or bad, sometimes with a spare bit.
+fn white_word(random: &mut Random) -> u32 {
+    let spare = random.one_in(4) as u32 * (1 << random.between(16, 27));
+    WHITE_KIND | spare | random.pick(&[0, 9, 10, 30, 500, 1000, 1001, 0xFFFF])
 }
 
 /// Every channel black.

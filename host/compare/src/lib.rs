@@ -18,6 +18,7 @@ pub mod powers;
 pub mod program;
 pub mod random;
 pub mod rounds;
+pub mod scaled;
 pub mod source_faults;
 pub mod steps;
 pub mod strip_faults;

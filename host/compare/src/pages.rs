@@ -12,29 +12,37 @@ pub struct Page {
     pub width: u64,
     pub height: u64,
     pub key: u64,
+    pub white: Option<u64>,
     pub channels: Vec<u16>,
 }
 
 impl Page {
     pub fn new(header: Header, channels: Vec<u16>) -> Page {
-        let Header { width, height, key } = header;
+        let Header { width, height, key, white } = header;
         Page {
             width,
             height,
             key,
+            white,
             channels,
         }
     }
 
     pub fn header(&self) -> Header {
-        header(self.width, self.height, self.key)
+        header_with(self.width, self.height, self.key, self.white)
     }
 
-    /// Size, key, the channel words, end.
+    /// The same page with this white point, or with none.
+    pub fn with_white(self, white: Option<u64>) -> Page {
+        Page { white, ..self }
+    }
+
+    /// Size, key, white where there is one, the channel words, end.
     pub fn strip(&self) -> Vec<u32> {
-        let mut strip = Vec::with_capacity(self.channels.len() + 3);
+        let mut strip = Vec::with_capacity(self.channels.len() + 4);
         strip.push(1 << 28 | (self.width as u32) << 14 | self.height as u32);
         strip.push(2 << 28 | self.key as u32);
+        strip.extend(self.white.map(|white| WHITE_KIND | white as u32));
         strip.extend(self.channels.iter().enumerate().map(|(i, &c)| (4 + i as u32 % 3) << 28 | c as u32));
         strip.push(7 << 28 | (self.channels.len() / 3) as u32);
         strip
@@ -57,6 +65,7 @@ impl Page {
             width: pixels.len() as u64,
             height: 1,
             key,
+            white: None,
             channels: pixels.concat(),
         }
     }
@@ -74,6 +83,19 @@ impl Page {
             ..self
         }
     }
+}
+
+/// The kind of a white word, in its place.
+pub const WHITE_KIND: u32 = 3 << 28;
+
+/// Whether a strip, or the strip that a row begins with, has a white word.
+pub fn has_white(strip: &[u32]) -> bool {
+    strip.get(2).is_some_and(|word| word >> 28 == 3)
+}
+
+/// The words of a sound strip between its header and its end.
+pub fn channel_words(strip: &[u32]) -> &[u32] {
+    &strip[2 + has_white(strip) as usize..strip.len() - 1]
 }
 
 pub const fn stored(exponent: u64, mantissa: u64) -> u16 {
@@ -160,17 +182,23 @@ pub fn page(random: &mut Random, look: Look, width: u64, height: u64) -> Page {
         };
         channels.extend(made);
     }
-    let key = key(random);
-    Page {
-        width,
-        height,
-        key,
-        channels,
-    }
+    let header = random_header(random, width, height);
+    Page::new(header, channels)
 }
 
+/// A header without a white point.
 pub fn header(width: u64, height: u64, key: u64) -> Header {
-    Header { width, height, key }
+    header_with(width, height, key, None)
+}
+
+/// A header with this white point or with none.
+pub fn header_with(width: u64, height: u64, key: u64, white: Option<u64>) -> Header {
+    Header { width, height, key, white }
+}
+
+/// A header of this size with any key, and with a white point or none.
+pub fn random_header(random: &mut Random, width: u64, height: u64) -> Header {
+    header_with(width, height, key(random), white(random))
 }
 
 /// Keys at the limits, the usual one, and any.
@@ -180,6 +208,18 @@ pub fn key(random: &mut Random) -> u64 {
         1 => 180,
         2 => 1000,
         _ => random.between(1, 1000),
+    }
+}
+
+/// None, the limits of white points, and around the powers of ten between them.
+pub const WHITES: [Option<u64>; 7] = [None, Some(10), Some(11), Some(99), Some(100), Some(999), Some(1000)];
+
+/// A white point at the limits or any, or none half the time.
+pub fn white(random: &mut Random) -> Option<u64> {
+    match random.below(6) {
+        0..=2 => None,
+        3 => random.pick(&WHITES[1..]),
+        _ => Some(random.between(10, 1000)),
     }
 }
 

@@ -61,7 +61,7 @@ fn source(compare: &mut Compare, random: &mut Random) -> Result<(), Difference> 
             4 => values::few(random, kind, width * height),
             _ => values::accepted(random, kind, width * height),
         };
-        let header = pages::header(width, height, pages::key(random));
+        let header = pages::random_header(random, width, height);
         converted(compare, &made, header)?;
     }
     Ok(())
@@ -107,9 +107,8 @@ pub fn picture(printed: &mut Printed, seed: u64) -> Result<(), Difference> {
 /// Up to three faults of a source at once.
 fn source_fault(compare: &mut Compare, random: &mut Random) -> Result<(), Difference> {
     for kind in KINDS {
-        let mut list = some(random, &source_faults::faults(kind));
-        list.dedup_by(|one, other| !source_faults::together(*one, *other));
-        let case = source_faults::Case::sound(kind).with(&list);
+        let list = some_together(random, &source_faults::faults(kind), source_faults::together);
+        let case = source_faults::Case::sound(kind, pages::white(random)).with(&list);
         let (told, _) = compare.convert_into(case.elements.source(), case.header, case.room)?;
         if told != source_faults::first(&list) {
             return Err(Difference(format!("the list does not tell {told:?} for {list:?}")));
@@ -120,14 +119,14 @@ fn source_fault(compare: &mut Compare, random: &mut Random) -> Result<(), Differ
 
 /// Up to three faults of a strip at once.
 fn strip_fault(compare: &mut Compare, random: &mut Random) -> Result<(), Difference> {
-    let mut list = some(random, &strip_faults::faults());
-    list.dedup_by(|one, other| !strip_faults::together(*one, *other));
-    strip_fault_case(compare, &list)
+    let white = pages::white(random);
+    let list = some_together(random, &strip_faults::faults(white), strip_faults::together);
+    strip_fault_case(compare, &list, white)
 }
 
-/// Every call on a strip with these faults, and what the list tells each.
-pub fn strip_fault_case(compare: &mut Compare, list: &[strip_faults::Fault]) -> Result<(), Difference> {
-    let strip_faults::Case { strip, y, room } = strip_faults::Case::sound().with(list);
+/// Every call on a strip with this white point or none and these faults, and what the list tells each.
+pub fn strip_fault_case(compare: &mut Compare, list: &[strip_faults::Fault], white: Option<u64>) -> Result<(), Difference> {
+    let strip_faults::Case { strip, y, room, .. } = strip_faults::Case::sound(white).with(list);
     let (header, tally) = (compare.header(&strip)?, compare.tally(&strip)?);
     let mut answers = vec![
         (Asked::Strip, compare.check(&strip)?),
@@ -141,7 +140,7 @@ pub fn strip_fault_case(compare: &mut Compare, list: &[strip_faults::Fault]) -> 
         let step = compare.step(&strip, n)?;
         answers.push((Asked::Strip, (step.number, step.place)));
     }
-    told_first(&answers, list, strip_faults::first)
+    told_first(&answers, list, |list, asked| strip_faults::first(list, asked, white))
 }
 
 /// Whether each call told what is first among these faults.
@@ -170,18 +169,14 @@ fn bands(compare: &mut Compare, random: &mut Random) -> Result<(), Difference> {
 
 /// Up to three faults of a row of bands at once.
 fn band_fault(compare: &mut Compare, random: &mut Random) -> Result<(), Difference> {
-    let mut list: Vec<band_faults::Fault> = Vec::new();
-    for fault in some(random, &band_faults::faults()) {
-        if list.iter().all(|other| band_faults::together(*other, fault)) {
-            list.push(fault);
-        }
-    }
-    band_fault_case(compare, &list)
+    let white = pages::white(random);
+    let list = some_together(random, &band_faults::faults(white), band_faults::together);
+    band_fault_case(compare, &list, white)
 }
 
-/// Every call on a row of bands with these faults, and what is told first.
-pub fn band_fault_case(compare: &mut Compare, list: &[band_faults::Fault]) -> Result<(), Difference> {
-    let case = band_faults::Case::new(list);
+/// Every call on a row of bands with this white point or none and these faults, and what is told first.
+pub fn band_fault_case(compare: &mut Compare, list: &[band_faults::Fault], white: Option<u64>) -> Result<(), Difference> {
+    let case = band_faults::Case::new(list, white);
     let row = case.row();
     let (header, tally) = (compare.header_of_bands(&row)?, compare.tally_of_bands(&row)?);
     let (mapped, _) = compare.map_bands(&row, case.room())?;
@@ -190,7 +185,18 @@ pub fn band_fault_case(compare: &mut Compare, list: &[band_faults::Fault]) -> Re
         (Asked::Tally, (tally.number, tally.place)),
         (Asked::Map, mapped),
     ];
-    told_first(&answers, list, band_faults::first)
+    told_first(&answers, list, |list, asked| band_faults::first(list, asked, white))
+}
+
+/// One to three of the list that can be there at once, in its order.
+fn some_together<T: Copy>(random: &mut Random, list: &[T], together: impl Fn(T, T) -> bool) -> Vec<T> {
+    let mut chosen: Vec<T> = Vec::new();
+    for fault in some(random, list) {
+        if chosen.iter().all(|other| together(*other, fault)) {
+            chosen.push(fault);
+        }
+    }
+    chosen
 }
 
 /// One to three of the list, in its order.

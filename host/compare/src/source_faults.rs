@@ -9,6 +9,7 @@ use dofnihet::Header;
 pub enum Fault {
     Size(u64, u64),
     Key(u64),
+    White(u64),
     /// So many elements more or fewer; all of them where more are taken than there are.
     Length(i64),
     /// So many words fewer than needed; all of them where more are taken than there are.
@@ -40,8 +41,9 @@ const SIZES: [(u64, u64); 20] = [
     (u64::MAX, u64::MAX),
 ];
 const KEYS: [u64; 6] = [0, 1001, 0x1_00B4, 0x1_0000_00B4, 1 << 63, u64::MAX];
+const WHITES: [u64; 10] = [0, 1, 9, 1001, 65535, 0x1_0014, 1 << 32, 0x1_0000_0014, 1 << 63, u64::MAX];
 
-/// A 2 x 2 page and an exact output, before any fault.
+/// A 2 x 2 page with a white point or without one and an exact output, before any fault.
 #[derive(Clone, Debug)]
 pub struct Case {
     pub elements: Elements,
@@ -50,7 +52,7 @@ pub struct Case {
 }
 
 impl Case {
-    pub fn sound(kind: Kind) -> Case {
+    pub fn sound(kind: Kind, white: Option<u64>) -> Case {
         let elements = match kind {
             Kind::Rgbe => Elements::Rgbe(vec![1, 2, 3, 136, 0, 255, 127, 128, 0, 0, 0, 0, 9, 8, 7, 72]),
             Kind::Half => Elements::Half(vec![0x3C00, 0x3C01, 1, 0, 0, 0, 0x7BFF, 0x8000, 0xFBFF, 0x3FF, 0x400, 0x3555]),
@@ -70,11 +72,11 @@ impl Case {
             ]),
             Kind::Stored => Elements::Stored(vec![0x80FF, 0x8180, 0, 0, 0, 0, 0x4880, 0xB8FF, 0x90C0, 0x48FF, 0xB880, 0]),
         };
-        let header = pages::header(2, 2, 180);
+        let header = pages::header_with(2, 2, 180, white);
         Case {
             elements,
             header,
-            room: 15,
+            room: header.strip_length(),
         }
     }
 
@@ -89,6 +91,7 @@ impl Case {
         match fault {
             Fault::Size(width, height) => (self.header.width, self.header.height) = (width, height),
             Fault::Key(key) => self.header.key = key,
+            Fault::White(white) => self.header.white = Some(white),
             Fault::Length(more) => self.elements.resize((self.elements.count() as i64 + more).max(0) as usize),
             Fault::Room(fewer) => self.room = self.room.saturating_sub(fewer),
             Fault::Element(place, value, _) => {
@@ -117,6 +120,7 @@ impl Case {
 pub fn faults(kind: Kind) -> Vec<Fault> {
     let mut list: Vec<Fault> = SIZES.iter().map(|&(width, height)| Fault::Size(width, height)).collect();
     list.extend(KEYS.map(Fault::Key));
+    list.extend(WHITES.map(Fault::White));
     list.extend([1, 3, 14, 15].map(Fault::Room));
     let values: &[(u32, u64)] = match kind {
         Kind::Rgbe => &[(128, 6), (254, 6)],
@@ -149,14 +153,15 @@ pub fn together(one: Fault, other: Fault) -> bool {
     stage(one) != stage(other)
 }
 
-/// Where the list asks for the fault: 1, 2, 3, 4, then elements in order.
+/// Where the fault is asked for: 1, 2, 10, 3, 4, then elements in order.
 fn stage(fault: Fault) -> usize {
     match fault {
         Fault::Size(..) => 1,
         Fault::Key(_) => 2,
-        Fault::Length(_) => 3,
-        Fault::Room(_) => 4,
-        Fault::Element(place, ..) => 5 + place,
+        Fault::White(_) => 3,
+        Fault::Length(_) => 4,
+        Fault::Room(_) => 5,
+        Fault::Element(place, ..) => 6 + place,
     }
 }
 
@@ -164,7 +169,11 @@ fn stage(fault: Fault) -> usize {
 pub fn first(faults: &[Fault]) -> Told {
     match faults.iter().min_by_key(|fault| stage(**fault)) {
         None => ACCEPTED,
+        Some(Fault::Size(..)) => (1, 0),
+        Some(Fault::Key(_)) => (2, 0),
+        Some(Fault::White(_)) => (10, 0),
+        Some(Fault::Length(_)) => (3, 0),
+        Some(Fault::Room(_)) => (4, 0),
         Some(Fault::Element(place, _, number)) => (*number, *place as u64),
-        Some(fault) => (stage(*fault) as u64, 0),
     }
 }

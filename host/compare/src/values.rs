@@ -200,8 +200,13 @@ fn half_worth(half: u16) -> f64 {
     }
 }
 
+/// What a lit channel is worth.
+pub fn worth(channel: u16) -> f64 {
+    ((channel & 0xFF) as f64 + 0.5) * 2_f64.powi((channel >> 8) as i32 - 136)
+}
+
 /// A finite number stored; at or below 2^-57 it is black.
-fn channel(worth: f64) -> u16 {
+pub fn channel(worth: f64) -> u16 {
     if worth <= 2_f64.powi(-57) {
         return 0;
     }

@@ -12,19 +12,28 @@ const SEED: u64 = 1501;
 /// already.
 #[test]
 fn one_and_two_faults() {
+    one_and_two_faults_of(None);
+}
+
+#[test]
+fn one_and_two_faults_with_white() {
+    one_and_two_faults_of(Some(30));
+}
+
+fn one_and_two_faults_of(white: Option<u64>) {
     let mut compare = Compare::new(&Library);
-    let cases = alone_and_in_pairs(&faults());
+    let cases = alone_and_in_pairs(&faults(white));
     for faults in &cases {
-        band_fault_case(&mut compare, faults).unwrap();
+        band_fault_case(&mut compare, faults, white).unwrap();
     }
     let darkened = |fault: &Fault| !matches!(fault, Fault::Black(..) | Fault::Above(_));
     let dark: Vec<&Vec<Fault>> = cases.iter().filter(|faults| faults.iter().all(darkened)).collect();
     for faults in &dark {
-        band_fault_case(&mut compare, &[&[Fault::Black(0, 3)], &faults[..]].concat()).unwrap();
+        band_fault_case(&mut compare, &[&[Fault::Black(0, 3)], &faults[..]].concat(), white).unwrap();
     }
-    band_fault_case(&mut compare, &[]).unwrap();
+    band_fault_case(&mut compare, &[], white).unwrap();
     println!(
-        "faults of bands: {} cases, {} on dark bands too, {}",
+        "faults of bands with white point {white:?}: {} cases, {} on dark bands too, {}",
         cases.len(),
         dark.len(),
         compare.counts
@@ -36,11 +45,13 @@ fn one_and_two_faults() {
 fn cut_rows() {
     let seed = SEED;
     let (random, mut compare) = (&mut Random::new(seed), Compare::new(&Library));
-    for (width, heights) in [(1, vec![1, 1, 1]), (2, vec![1, 3, 2]), (3, vec![2, 1]), (1, vec![5, 1, 1, 4])] {
-        let page = pages::page(random, Look::Mixed, width, heights.iter().sum());
-        let row = bands::row(&page, &heights);
+    let cuttings = [(1, vec![1, 1, 1]), (2, vec![1, 3, 2]), (3, vec![2, 1]), (1, vec![5, 1, 1, 4])];
+    for ((width, heights), white) in cuttings.iter().flat_map(|cutting| [None, Some(30)].map(|white| (cutting, white))) {
+        let page = pages::page(random, Look::Mixed, *width, heights.iter().sum()).with_white(white);
+        let row = bands::row(&page, heights);
         let channels = |bands: usize| (3 * width * heights[..bands].iter().sum::<u64>()) as usize;
-        let ended = |count: usize| (1..=heights.len()).find(|&bands| channels(bands) + 3 * bands == count);
+        let others = 3 + page.white.is_some() as usize;
+        let ended = |count: usize| (1..=heights.len()).find(|&bands| channels(bands) + others * bands == count);
         for count in 0..=row.len() {
             let told = same(seed, compare.bands(&row[..count]));
             let expected = ended(count).map_or((3, 0), |bands| Light::of(&page.channels[..channels(bands)]).told());
@@ -78,16 +89,19 @@ fn words_left_over() {
 fn other_heights() {
     let seed = SEED + 2;
     let (random, mut compare) = (&mut Random::new(seed), Compare::new(&Library));
-    let sound = bands::row(&pages::page(random, Look::Near, 2, 6), &[2, 2, 2]);
-    for (band, start) in [0, 15, 30].into_iter().enumerate() {
+    for (band, white) in (0..3).flat_map(|band| [None, Some(30)].map(|white| (band, white))) {
+        let page = pages::page(random, Look::Near, 2, 6).with_white(white);
+        let sound = bands::row(&page, &[2, 2, 2]);
+        let front = 2 + white.is_some() as usize;
+        let start = band * (front + 13);
         let mut told = |height| {
             let mut row = sound.clone();
             row[start] = row[start] & !0x3FFF | height;
             same(seed, compare.bands(&row))
         };
-        assert_eq!(told(1), (7, start as u64 + 8));
+        assert_eq!(told(1), (7, (start + front) as u64 + 6));
         for height in [3, 4] {
-            assert_eq!(told(height), if band == 2 { (3, 0) } else { (7, start as u64 + 14) });
+            assert_eq!(told(height), if band == 2 { (3, 0) } else { (7, (start + front) as u64 + 12) });
         }
         assert_eq!(told(8192), (3, 0));
     }
@@ -107,8 +121,9 @@ fn damaged_words() {
         (2, vec![2, 1]),
         (1, vec![2, 2]),
     ] {
-        for look in [Look::Wide, Look::Mixed, Look::Black] {
-            let row = bands::row(&pages::page(random, look, width, heights.iter().sum()), &heights);
+        for (look, white) in [(Look::Wide, None), (Look::Mixed, None), (Look::Black, None), (Look::Wide, Some(30))] {
+            let page = pages::page(random, look, width, heights.iter().sum()).with_white(white);
+            let row = bands::row(&page, &heights);
             for (place, word) in (0..row.len()).flat_map(|place| damage::one_word(&row, place).into_iter().map(move |word| (place, word))) {
                 let mut damaged = row.clone();
                 damaged[place] = word;

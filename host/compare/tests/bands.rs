@@ -97,14 +97,16 @@ fn extremes() {
     println!("extremes of bands: {}", compare.counts);
 }
 
-/// Strips of two widths and two keys, one behind another: 21 unless all are like the first, then as all their pixels tell.
+/// Strips of two widths, two keys and two white points or none, one behind another: 21 unless all are like the first, then as all their
+/// pixels tell.
 #[test]
 fn like_and_unlike() {
     let seed = SEED + 3;
     let (random, mut compare) = (&mut Random::new(seed), Compare::new(&Library));
     for _ in 0..2_000 {
         let list = bands::several(random);
-        let like = list.iter().all(|page| (page.width, page.key) == (list[0].width, list[0].key));
+        let kind = |page: &Page| (page.width, page.key, page.white);
+        let like = list.iter().all(|page| kind(page) == kind(&list[0]));
         let row: Vec<u32> = list.iter().flat_map(Page::strip).collect();
         let channels: Vec<u16> = list.iter().flat_map(|page| page.channels.clone()).collect();
         let told = if like { Light::of(&channels).told() } else { (21, 0) };

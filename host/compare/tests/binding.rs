@@ -24,7 +24,12 @@ fn stored(exponent: u64, mantissa: u64) -> Stored {
 
 fn header(told: raw::Header) -> Result<Header, Refusal> {
     let raw::Header { width, height, key, .. } = told;
-    refusal(told.number, told.place).map(|_| Header { width, height, key })
+    let white = match (told.white_present, told.white) {
+        (0, 0) => None,
+        (1, white) => Some(white),
+        _ => panic!("{told:?} has a white point and has none"),
+    };
+    refusal(told.number, told.place).map(|_| Header { width, height, key, white })
 }
 
 /// An accepted tally has an average and extremes.
@@ -117,7 +122,7 @@ fn binding() {
         same(&page.strip(), y);
         same(&damage::random(random, &page.strip()), y);
         for kind in compare::elements::KINDS {
-            let room = dofnihet::strip_length((width * height) as usize) + random.below(3) as usize - 1;
+            let room = page.header().strip_length() + random.below(3) as usize - 1;
             converted(&values::wild(random, kind, width * height), page.header(), room);
         }
         strips += 2;

@@ -106,10 +106,13 @@ fn levels_at_limits() {
 fn scaled_luminances_at_limits() {
     let mut compare = Compare::new(&Library);
     for (common, odd, key) in SCALED {
-        for count in [2, 8, 100, 8192] {
+        for (count, white) in [2, 8, 100, 8192]
+            .iter()
+            .flat_map(|count| pages::WHITES.map(|white| (*count, white)))
+        {
             let mut pixels = vec![common; count];
             pixels[count / 2] = odd;
-            compare.strip(&Page::row(key, &pixels).strip()).unwrap();
+            compare.strip(&Page::row(key, &pixels).with_white(white).strip()).unwrap();
         }
     }
     println!("scaled luminances at limits: {}", compare.counts);
@@ -174,8 +177,10 @@ fn scaled_luminances_of_bands_at_limits() {
         for (count, odd) in [(2, 1), (8, 1), (100, 1), (100, 50), (8192, 1)] {
             let mut pixels = vec![upper; count];
             pixels[count - odd..].fill(lower);
-            let page = Page::column(key, &pixels);
-            compare.cutting(&page, &[(count - odd) as u64, odd as u64]).unwrap();
+            for white in pages::WHITES {
+                let page = Page::column(key, &pixels).with_white(white);
+                compare.cutting(&page, &[(count - odd) as u64, odd as u64]).unwrap();
+            }
         }
     }
     println!("scaled luminances of bands at limits: {}", compare.counts);

@@ -3,7 +3,8 @@
 
 use compare::light::COLOURS;
 use compare::pages::{self, stored, Page};
-use compare::{planted, same, steps, Calls, Compare, Difference, Library, Random};
+use compare::scaled::{self, numbers};
+use compare::{planted, same, Calls, Compare, Difference, Library, Random};
 use dofnihet::raw::Outcome;
 use std::collections::BTreeSet;
 use std::ops::RangeInclusive;
@@ -19,11 +20,6 @@ const EXPONENTS: RangeInclusive<u64> = 98..=158;
 
 /// The usual key, and keys over an octave: a mantissa that one leaves out is another's.
 const KEYS: [u64; 9] = [180, 500, 552, 610, 673, 743, 820, 906, 1000];
-
-/// Every stored number with one of these exponents.
-fn numbers(exponents: RangeInclusive<u64>) -> impl Iterator<Item = u16> {
-    exponents.flat_map(|exponent| (128..=255).map(move |mantissa| stored(exponent, mantissa)))
-}
 
 /// A page with a pixel for each stored number.
 fn page(key: u64, pixel: impl FnMut(u16) -> [u16; 3]) -> Page {
@@ -45,28 +41,6 @@ fn mixed_page(random: &mut Random, key: u64, place: usize) -> Page {
     })
 }
 
-struct Pixel {
-    channels: [u16; 3],
-    luminance: u16,
-    scaled: u16,
-}
-
-/// The pixels of a strip, all of them lit, under the average that the library tells.
-fn pixels(strip: &[u32]) -> Vec<Pixel> {
-    let (tally, key) = (Library.tally(strip), Library.header(strip).key);
-    let average = stored(tally.exponent, tally.mantissa);
-    let pixel = |words: &[u32; 3]| {
-        let channels = words.map(|word| word as u16);
-        let luminance = steps::luminance(channels);
-        Pixel {
-            channels,
-            luminance,
-            scaled: steps::scaled_luminance(luminance, average, key),
-        }
-    };
-    strip[2..strip.len() - 1].as_chunks().0.iter().map(pixel).collect()
-}
-
 /// Compares these pages, on which every number that is wanted must be a scaled luminance.
 #[track_caller]
 fn every_scaled_luminance(compare: &mut Compare, pages: impl Iterator<Item = Page>) -> Result<(), Difference> {
@@ -74,7 +48,7 @@ fn every_scaled_luminance(compare: &mut Compare, pages: impl Iterator<Item = Pag
     for page in pages {
         let strip = page.strip();
         assert_eq!(compare.strip(&strip)?, (0, 0));
-        reached.extend(pixels(&strip).iter().map(|pixel| pixel.scaled));
+        reached.extend(scaled::pixels(&strip).iter().map(|(_, pixel)| pixel.scaled));
     }
     let missing: Vec<u16> = numbers(WANTED).filter(|number| !reached.contains(number)).collect();
     assert_eq!(missing, []);
@@ -139,9 +113,9 @@ impl Calls for Planted {
         if outcome.number > 0 {
             return outcome;
         }
-        for (levels, pixel) in output.as_chunks_mut().0.iter_mut().zip(pixels(strip)) {
+        for (number, pixel) in scaled::pixels(strip) {
             if let Some(display) = self.display(pixel.scaled) {
-                *levels = pixel.channels.map(|channel| steps::level(channel, display, pixel.luminance));
+                output.as_chunks_mut().0[number] = pixel.levels(display);
             }
         }
         outcome

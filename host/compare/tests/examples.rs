@@ -3,7 +3,7 @@
 
 use compare::compare::{raw_step, raw_tally};
 use compare::pages::{header, stored, Page};
-use compare::{program, Calls, Elements, Library};
+use compare::{bands, program, Calls, Elements, Library};
 use dofnihet::raw::{Outcome, Tally};
 use second::whole::Whole;
 use second::Refusal;
@@ -137,7 +137,7 @@ fn pages() {
 
 /// Pages of the same greys one below another, each a band: average and levels are those of the whole page, 4095 and 39 beside a dark band.
 #[test]
-fn bands() {
+fn pages_in_bands() {
     let of_bands = |halves: &[u16]| -> Vec<u32> { halves.iter().flat_map(|half| greys(&[*half])).collect() };
     let (two, dark) = (of_bands(&[0x3C00, 0x3800]), of_bands(&[0x7BFF, 0]));
     let tally = Library.tally_of_bands(&two);
@@ -191,6 +191,33 @@ fn dark_pages() {
         assert_eq!(levels, vec![7; dark.len() - 3]);
     }
     println!("examples of dark pages: 3");
+}
+
+/// Request 2026-05. Greys 8 and 1/8 have 767 and -769 steps, the average -1 of (128,255), and at K 1,000 L is 8 and 1/8 times 511/512.
+/// L(1 + L/w²)/(1 + L) is L/w² + (1 - 1/w²) · L/(1+L): with w = 1 that is L, 7.98 and 31.8/255; with w = 10 it is 0.95965 and 0.11106, stored
+/// as 245.5/256 and 227.5/2048, which give 244.54 and 28.33.
+#[test]
+fn white_points() {
+    let row = Page::row(1000, &[[stored(131, 255); 3], [stored(125, 255); 3]]);
+    for (white, bright, dim) in [(None, 227, 28), (Some(10), 255, 32), (Some(100), 245, 28)] {
+        let page = row.clone().with_white(white);
+        let mut of_strip = [7; 6];
+        assert_eq!(Library.map(&page.strip(), &mut of_strip).number, 0);
+        let of_bands = levels_of_bands(&bands::row(&page.turned(), &[1, 1]));
+        let expected = [bright, bright, bright, dim, dim, dim];
+        assert_eq!((&of_strip[..], &of_bands[..]), (&expected[..], &expected[..]));
+    }
+    println!("examples of white points: 3");
+}
+
+/// The picture program's page with w = 1, where display luminance is L: 0.18 · 255.5/180.5 and half of it, stored as 130.5/512 and
+/// 130.5/1024, which give 64.995 and 32.498.
+#[test]
+fn picture_with_white() {
+    let strip = Page::row(180, &[[0x80FF; 3], [0x7FFF; 3]]).with_white(Some(10)).strip();
+    assert_eq!(strip[..3], [0x1000_8001, 0x2000_00B4, 0x3000_000A]);
+    assert_eq!(program::run(&program::bytes(&strip)), b"P6\n2 1\n255\nAAA\x20\x20\x20");
+    println!("example of the picture program with a white point: 1");
 }
 
 /// The picture program's page, whose words hold 80FF and 7FFF, pixel by pixel and beyond.

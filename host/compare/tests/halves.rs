@@ -39,7 +39,7 @@ fn grey() {
     let (random, mut compare) = (&mut Random::new(seed), Compare::new(&Library));
     let list = halves(false);
     for &half in &list {
-        let header = pages::header(1, 1, pages::key(random));
+        let header = pages::random_header(random, 1, 1);
         let told = same(seed, converted(&mut compare, &Elements::Half(vec![half; 3]), header));
         assert_eq!(told, (0, 0), "{half:04X}");
     }
@@ -68,6 +68,6 @@ fn pages_of_all() {
 }
 
 fn page(compare: &mut Compare, random: &mut Random, seed: u64, part: &[u16]) {
-    let header = pages::header(part.len() as u64 / 24, 8, pages::key(random));
+    let header = pages::random_header(random, part.len() as u64 / 24, 8);
     assert_eq!(same(seed, converted(compare, &Elements::Half(part.to_vec()), header)), (0, 0));
 }

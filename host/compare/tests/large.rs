@@ -1,8 +1,8 @@
 //! One page of 16,777,216 pixels: converted, unpacked, tallied, mapped and read at its end on both sides, and the second half of demand 3
-//! on all of it; tallied and mapped in bands too. The largest dark pages and their neighbours. Pages of 1,048,576 pixels from the other
-//! sources.
+//! on all of it; tallied and mapped in bands too. The largest dark pages and their neighbours, with a white point too. Pages of 1,048,576
+//! pixels from the other sources.
 
-use compare::compare::{raw_header, raw_step, raw_tally};
+use compare::compare::{raw_header, raw_step, raw_tally, second_header};
 use compare::lent::Lent;
 use compare::light::{self, Light, DARK};
 use compare::pages::{self, Look, Page};
@@ -31,12 +31,7 @@ fn large() -> Page {
     let (middle, last) = (channels.len() / 6 * 3, channels.len() - 3);
     channels[middle..middle + 3].fill(pages::BRIGHT);
     channels[last..].copy_from_slice(&[0, 0, pages::DIM]);
-    Page {
-        width: WIDTH,
-        height: HEIGHT,
-        key: 180,
-        channels,
-    }
+    Page::new(pages::header(WIDTH, HEIGHT, 180), channels)
 }
 
 /// The page in bands of 1 to 63 rows and the rest.
@@ -98,13 +93,7 @@ struct BySecond {
 }
 
 fn by_second(step: &SecondStep, page: &Page) -> BySecond {
-    let Page { width, height, key, .. } = *page;
-    let header = second::Header {
-        width,
-        height,
-        key,
-        white: None,
-    };
+    let header = second_header(page.header());
     let strip = step
         .convert(second::Source::Stored(&page.channels), header, page.channels.len() + 8)
         .unwrap_or_default();
@@ -175,7 +164,8 @@ fn grey_front((width, height): (u64, u64), lit: u64) -> Page {
     Page::new(pages::header(width, height, 180), channels)
 }
 
-/// Tally and map of such a page: refused as dark and the output as it was, or the paper's average -1 and level 39.
+/// Tally and map of such a page: refused as dark and the output as it was, or the paper's average -1 and level 39. With w = 1 display
+/// luminance is L, 0.18 stored as 184.5/1024, and the level 45.94 to the nearest.
 fn told_light(page: &Page, expected: Told, tally: Tally, map: impl Fn(&mut [u8]) -> Outcome) {
     let mut output = Lent::new(page.channels.len(), 5);
     let outcome = map(output.output());
@@ -183,7 +173,8 @@ fn told_light(page: &Page, expected: Told, tally: Tally, map: impl Fn(&mut [u8])
     if expected == DARK {
         return output.holds(&[]).unwrap();
     }
-    let levels: Vec<u8> = page.channels.iter().map(|&channel| if channel > 0 { 39 } else { 0 }).collect();
+    let level = if page.white == Some(10) { 46 } else { 39 };
+    let levels: Vec<u8> = page.channels.iter().map(|&channel| if channel > 0 { level } else { 0 }).collect();
     assert_eq!((tally.lit, tally.average), (Light::of(&page.channels).lit, -1));
     output.holds(&levels).unwrap();
 }
@@ -201,10 +192,11 @@ fn dark_pages() {
     }
 }
 
-/// The page of all pixels with just enough light, all of it in the first bands, and the same without its first pixel.
+/// The page of all pixels with a white point and just enough light, all of it in the first bands, and the same without its first pixel. Its
+/// strip is the longest one.
 #[test]
 fn dark_bands() {
-    let page = grey_front((WIDTH, HEIGHT), WIDTH * HEIGHT / 16);
+    let page = grey_front((WIDTH, HEIGHT), WIDTH * HEIGHT / 16).with_white(Some(10));
     let (mut strip, mut row) = (page.strip(), in_bands(&page));
     for expected in [(0, 0), DARK] {
         assert_eq!((Library.check(&strip), Library.header_of_bands(&row).number), (ACCEPTED, 0));
@@ -212,17 +204,17 @@ fn dark_bands() {
         told_light(&page, expected, Library.tally_of_bands(&row), |output| {
             Library.map_bands(&row, output)
         });
-        damage::blacken(&mut strip[2..5]);
-        damage::blacken(&mut row[2..5]);
+        damage::blacken(&mut strip[3..6]);
+        damage::blacken(&mut row[3..6]);
     }
     println!("large page in bands at the edge: with its first pixel and without");
 }
 
 /// A page of 2^20 pixels and its strip through every call.
-fn source(compare: &mut Compare, kind: Kind, width: u64) {
+fn source(compare: &mut Compare, kind: Kind, width: u64, white: Option<u64>) {
     let seed = SEED + width;
     let elements = values::accepted(&mut Random::new(seed), kind, 1 << 20);
-    let header = pages::header(width, (1 << 20) / width, 180);
+    let header = pages::header_with(width, (1 << 20) / width, 180, white);
     assert_eq!(same(seed, converted(compare, &elements, header)), (0, 0));
     println!("long source of {kind:?}, seed {seed}");
 }
@@ -230,8 +222,12 @@ fn source(compare: &mut Compare, kind: Kind, width: u64) {
 #[test]
 fn long_sources() {
     let mut compare = Compare::new(&Library);
-    for (kind, width) in [(Kind::Single, 8192), (Kind::Half, 128), (Kind::Rgbe, 1024)] {
-        source(&mut compare, kind, width);
+    for (kind, width, white) in [
+        (Kind::Single, 8192, Some(30)),
+        (Kind::Half, 128, None),
+        (Kind::Rgbe, 1024, Some(1000)),
+    ] {
+        source(&mut compare, kind, width, white);
     }
     println!("long sources: {}", compare.counts);
 }

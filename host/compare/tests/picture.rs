@@ -28,8 +28,9 @@ fn sound() {
         let picture = same(seed, printed.same(&program::bytes(&page.strip())));
         assert!(picture.starts_with(front(&page, page.told()).as_bytes()));
     }
-    for (width, height) in [(5460, 1), (1, 5460), (84, 65), (70, 78), (2730, 2)] {
-        let strip = pages::page(random, Look::Wide, width, height).strip();
+    let shapes = [(5460, 1), (1, 5460), (84, 65), (70, 78), (2730, 2)];
+    for ((width, height), white) in shapes.iter().flat_map(|shape| [None, Some(30)].map(|white| (*shape, white))) {
+        let strip = pages::page(random, Look::Wide, width, height).with_white(white).strip();
         assert!(same(seed, printed.same(&program::bytes(&strip))).starts_with(b"P6\n"));
     }
     println!(
@@ -65,9 +66,10 @@ fn dark() {
 fn refused() {
     let seed = SEED + 1;
     let (random, mut printed) = (&mut Random::new(seed), Printed::default());
-    for fault in strip_faults::faults() {
-        let case = strip_faults::Case::sound().with(&[fault]);
-        let (number, place) = strip_faults::first(&[fault], strip_faults::Asked::Tally);
+    let with_each = |white: Option<u64>| strip_faults::faults(white).into_iter().map(move |fault| (fault, white));
+    for (fault, white) in with_each(None).chain(with_each(Some(30))) {
+        let case = strip_faults::Case::sound(white).with(&[fault]);
+        let (number, place) = strip_faults::first(&[fault], strip_faults::Asked::Tally, white);
         let answer = same(seed, printed.same(&program::bytes(&case.strip)));
         if number > 0 {
             assert_eq!(answer, format!("refused {number} {place}\n").as_bytes());
@@ -84,22 +86,35 @@ fn refused() {
     );
 }
 
+/// The longest strip that the program takes, of 5,460 pixels: 65,532 bytes, or with a white word all 65,536.
+fn longest(random: &mut Random, white: Option<u64>) -> Vec<u8> {
+    let page = pages::page(random, Look::Wide, 5460, 1).with_white(white);
+    let bytes = program::bytes(&page.strip());
+    assert_eq!(bytes.len(), 65_532 + 4 * white.is_some() as usize);
+    bytes
+}
+
 /// Byte counts: none, no multiple of four, at the limit and above it.
 #[test]
 fn byte_counts() {
     let seed = SEED + 2;
     let (random, mut printed) = (&mut Random::new(seed), Printed::default());
-    let bytes = program::bytes(&pages::page(random, Look::Wide, 5460, 1).strip());
-    assert_eq!(bytes.len(), 65_532);
-    for count in (0..40).chain(65_500..65_532) {
-        let answer = same(seed, printed.same(&bytes[..count]));
-        assert_eq!(answer, b"refused 3 0\n");
-    }
-    for more in 1..=4 {
-        assert_eq!(same(seed, printed.same(&[&bytes[..], &[0; 4][..more]].concat())), b"refused 3 0\n");
-    }
-    for more in [5, 6, 7, 8, 9, 12, 4096, 70_000, 1_000_000] {
-        assert_eq!(same(seed, printed.same(&[&bytes[..], &vec![0; more]].concat())), b"long\n");
+    for white in [None, Some(30)] {
+        let bytes = longest(random, white);
+        for count in (0..40).chain(65_500..bytes.len()) {
+            let answer = same(seed, printed.same(&bytes[..count]));
+            assert_eq!(answer, b"refused 3 0\n");
+        }
+        let mut told = |length: usize| {
+            let longer = [&bytes[..], &vec![0; length - bytes.len()]].concat();
+            same(seed, printed.same(&longer))
+        };
+        for length in bytes.len() + 1..=65_536 {
+            assert_eq!(told(length), b"refused 3 0\n");
+        }
+        for more in [1, 2, 3, 4, 5, 8, 4096, 70_000, 1_000_000] {
+            assert_eq!(told(65_536 + more), b"long\n");
+        }
     }
     for count in [65_533, 65_535, 65_536, 65_537, 65_540, 131_072] {
         let noise: Vec<u8> = (0..count).map(|_| random.bits() as u8).collect();
@@ -116,14 +131,16 @@ fn byte_counts() {
 fn pieces_and_files() {
     let seed = SEED + 3;
     let (random, mut printed) = (&mut Random::new(seed), Printed::default());
-    let bytes = program::bytes(&pages::page(random, Look::Wide, 5460, 1).strip());
-    let longest = [&bytes[..], &[0; 4]].concat();
+    let bytes = longest(random, None);
+    let white = longest(random, Some(30));
+    let padded = [&bytes[..], &[0; 4]].concat();
     let longer = [&bytes[..], &[0; 5]].concat();
     let mut odd = bytes.clone();
     odd.pop();
     for (input, size) in [
         (&bytes, 7_001),
-        (&longest, 16_383),
+        (&white, 7_001),
+        (&padded, 16_383),
         (&longer, 65_536),
         (&longer, 21_847),
         (&odd, 30_001),

@@ -71,7 +71,7 @@ impl Planted {
 impl Calls for Planted {
     fn convert(&self, source: Source, header: Header, output: &mut [u32]) -> Outcome {
         let outcome = Library.convert(source, header, output);
-        let (needed, last) = (3 * (header.width * header.height) as usize + 3, output.len() - 1);
+        let (needed, last) = (header.strip_length(), output.len() - 1);
         match self {
             ConvertFirst if outcome.number == 0 => output[0] ^= 1 << 14,
             ConvertLast if outcome.number == 0 => output[needed - 1] ^= 1,

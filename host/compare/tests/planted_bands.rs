@@ -151,6 +151,8 @@ impl Calls for Planted {
             width: 0,
             height: 0,
             key: 0,
+            white_present: 0,
+            white: 0,
         };
         if let (Some(first), true) = (bands.first(), fault.is_none() || *self == HeightOfRefused) {
             header.height = bands.iter().map(|band| height(band)).sum();
@@ -215,7 +217,7 @@ fn compared(calls: &dyn Calls) -> Result<(), Difference> {
         compare.cutting(&page, &heights)?;
     }
     let list = [
-        Fault::In(1, strip_faults::Fault::Wild(6, 1)),
+        Fault::In(1, strip_faults::Fault::Wild(4, 1)),
         Fault::Width(1, 4),
         Fault::Key(2, 181),
         Fault::Above(1),
@@ -227,7 +229,7 @@ fn compared(calls: &dyn Calls) -> Result<(), Difference> {
         Fault::Room(35),
     ];
     for faults in alone_and_in_pairs(&list) {
-        band_fault_case(&mut compare, &faults)?;
+        band_fault_case(&mut compare, &faults, None)?;
     }
     compare.bands(&[&bands::row(&page, &[2, 2])[..], &[0]].concat())?;
     compare.bands(&bands::black(1, &[8191, 1]))?;

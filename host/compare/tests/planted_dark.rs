@@ -4,7 +4,7 @@
 use compare::band_faults::Fault as BandFault;
 use compare::compare::{raw_header, raw_step, raw_tally};
 use compare::light::{self, Where, EDGES};
-use compare::pages::Page;
+use compare::pages::{has_white, Page};
 use compare::rounds::{band_fault_case, strip_fault_case};
 use compare::strip_faults::Fault;
 use compare::{bands, planted, Calls, Compare, Difference, Elements, Library, Told};
@@ -47,9 +47,10 @@ fn told<T>(answer: &Result<T, Refusal>) -> Told {
     answer.as_ref().err().map_or((0, 0), |refusal| (refusal.number, refusal.place))
 }
 
-/// The words of a strip between key and end.
+/// The words of a strip between header and end.
 fn channels(strip: &[u32]) -> &[u32] {
-    strip.get(2..strip.len() - 1).unwrap_or_default()
+    let front = 2 + has_white(strip) as usize;
+    strip.get(front..strip.len() - 1).unwrap_or_default()
 }
 
 /// The channel words of all strips in a row.
@@ -192,7 +193,7 @@ impl Calls for Planted {
 
     fn convert(&self, source: Source, header: Header, output: &mut [u32]) -> Outcome {
         let told = Library.convert(source, header, output);
-        let length = dofnihet::strip_length((header.width * header.height) as usize).min(output.len());
+        let length = header.strip_length().min(output.len());
         match self.also(Converted, &output[..length], told.number) {
             true => outcome((9, 0)),
             false => told,
@@ -268,11 +269,11 @@ fn compared(calls: &dyn Calls) -> Result<(), Difference> {
         compare.strip(&page.strip())?;
         compare.cutting(&page, &bands::single_rows(page.height))?;
     }
-    for fault in [Fault::Foreign(6, 1 << 16), Fault::End(1), Fault::Room(1)] {
-        strip_fault_case(&mut compare, &[Fault::Dark, fault])?;
+    for fault in [Fault::Foreign(4, 1 << 16), Fault::End(1), Fault::Room(1)] {
+        strip_fault_case(&mut compare, &[Fault::Dark, fault], None)?;
     }
     for fault in [BandFault::Key(1, 181), BandFault::Room(1)] {
-        band_fault_case(&mut compare, &[BandFault::Black(0, 3), fault])?;
+        band_fault_case(&mut compare, &[BandFault::Black(0, 3), fault], None)?;
     }
     Ok(())
 }

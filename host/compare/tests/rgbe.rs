@@ -60,7 +60,7 @@ fn accepted() {
 }
 
 fn page(compare: &mut Compare, random: &mut Random, seed: u64, source: Vec<u8>) {
-    let header = pages::header(source.len() as u64 / 4, 1, pages::key(random));
+    let header = pages::random_header(random, source.len() as u64 / 4, 1);
     assert_eq!(same(seed, converted(compare, &Elements::Rgbe(source), header)), (0, 0));
 }
 

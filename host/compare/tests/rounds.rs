@@ -1,4 +1,5 @@
-//! The soak's rounds on fixed seeds. Of their sound pages some are dark, some at the edge, and most are accepted.
+//! The soak's rounds on fixed seeds. Of their sound pages some are dark, some at the edge, and most are accepted; about half of those have
+//! a white point.
 
 use compare::counts::Counts;
 use compare::{rounds, same, Compare, Library};
@@ -10,8 +11,11 @@ fn run(first: u64, count: u64) {
     for seed in first..first + count {
         same(seed, rounds::round(&mut compare, seed));
     }
-    let Counts { pages, dark, edge, .. } = compare.counts;
+    let Counts {
+        pages, white, dark, edge, ..
+    } = compare.counts;
     assert!((pages / 50..pages / 10).contains(&dark) && edge > dark);
+    assert!((2 * pages / 5..3 * pages / 5).contains(&white));
     println!("rounds, seeds {first} to {}: {}", first + count - 1, compare.counts);
 }
 

@@ -46,7 +46,7 @@ fn pages_of(compare: &mut Compare, random: &mut Random, seed: u64, list: &[u32])
     for part in list.chunks(3 * 256) {
         let mut part = part.to_vec();
         part.resize(3 * 256, 0);
-        let header = pages::header(16, 16, pages::key(random));
+        let header = pages::random_header(random, 16, 16);
         assert_eq!(same(seed, converted(compare, &Elements::Single(part), header)), (0, 0));
     }
 }
@@ -58,7 +58,7 @@ fn edges() {
     let (random, mut compare) = (&mut Random::new(seed), Compare::new(&Library));
     for single in values::edge_singles() {
         for other in [single, 0x2300_0001, 0x5B80_0000, 0] {
-            let header = pages::header(1, 1, pages::key(random));
+            let header = pages::random_header(random, 1, 1);
             same(seed, converted(&mut compare, &Elements::Single(vec![other, single, other]), header));
         }
     }

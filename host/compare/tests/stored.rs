@@ -30,15 +30,16 @@ fn words() {
     for value in 0..=u16::MAX {
         let width = random.between(1, 2);
         let place = random.below(3 * width);
-        let mut page = Page {
-            width,
-            height: 1,
-            key: pages::key(random),
-            channels: (0..3 * width).map(|_| values::stored(random)).collect(),
-        };
+        let header = pages::random_header(random, width, 1);
+        let mut page = Page::new(header, (0..3 * width).map(|_| values::stored(random)).collect());
         page.channels[place as usize] = value;
+        let front = 2 + page.white.is_some() as u64;
         let told = same(seed, compare.strip(&page.strip()));
-        let expected = if pages::is_channel(value) { page.told() } else { (8, place + 2) };
+        let expected = if pages::is_channel(value) {
+            page.told()
+        } else {
+            (8, place + front)
+        };
         assert_eq!(told, expected, "{value:04X}");
     }
     println!("stored in words, seed {seed}: 65536 numbers, {}", compare.counts);
@@ -53,12 +54,7 @@ fn accepted() {
     for part in list.chunks(128) {
         for shape in [[1, 1, 1], [1, 0, 0], [0, 1, 0], [0, 0, 1]] {
             let channels = part.iter().flat_map(|&value| shape.map(|on| on * value)).collect();
-            let page = Page {
-                width: part.len() as u64,
-                height: 1,
-                key: pages::key(random),
-                channels,
-            };
+            let page = Page::new(pages::random_header(random, part.len() as u64, 1), channels);
             let made = same(
                 seed,
                 compare.convert(Elements::Stored(page.channels.clone()).source(), page.header()),

@@ -62,8 +62,14 @@ fn damaged_words() {
     let (random, mut compare) = (&mut Random::new(seed), Compare::new(&Library));
     let (mut strips, mut accepted) = (0, 0);
     for (width, height) in [(1, 1), (2, 1), (1, 2), (2, 2), (3, 2), (1, 5)] {
-        for look in [Look::Wide, Look::Mixed, Look::Black, Look::Edges] {
-            let strip = pages::page(random, look, width, height).strip();
+        for (look, white) in [
+            (Look::Wide, None),
+            (Look::Mixed, None),
+            (Look::Black, None),
+            (Look::Edges, None),
+            (Look::Wide, Some(30)),
+        ] {
+            let strip = pages::page(random, look, width, height).with_white(white).strip();
             for place in 0..strip.len() {
                 for word in damage::one_word(&strip, place) {
                     let mut damaged = strip.clone();
@@ -85,8 +91,9 @@ fn damaged_words() {
 fn cut_and_lengthened() {
     let seed = SEED + 3;
     let (random, mut compare) = (&mut Random::new(seed), Compare::new(&Library));
-    for (width, height) in [(1, 1), (2, 2), (3, 1), (1, 4), (5, 5)] {
-        let strip = pages::page(random, Look::Mixed, width, height).strip();
+    let shapes = [(1, 1), (2, 2), (3, 1), (1, 4), (5, 5)];
+    for ((width, height), white) in shapes.iter().flat_map(|shape| [None, Some(30)].map(|white| (*shape, white))) {
+        let strip = pages::page(random, Look::Mixed, width, height).with_white(white).strip();
         for count in 0..strip.len() {
             let told = same(seed, compare.strip(&strip[..count]));
             assert_eq!(told, (3, 0), "{count} words");

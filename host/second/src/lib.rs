@@ -39,10 +39,10 @@ pub struct Rules {
 }
 
 impl Rules {
-    /// What is built now: document 01 with 2026-01 to 2026-04, the last of which changes no answer.
+    /// What is built now: document 01 with 2026-01 to 2026-05, the fourth of which changes no answer.
     pub const BUILT: Rules = Rules {
         dark_page: true,
-        white_word: false,
+        white_word: true,
         nearest_steps: false,
         screen_curve: false,
     };

@@ -12,7 +12,7 @@ const WHITE: u32 = 3;
 const RED: u32 = 4;
 const END: u32 = 7;
 
-/// What the words before the channels say; W only under change 2026-05, and only where the strip has the word.
+/// What the words before the channels say; W where the strip has the word.
 #[derive(Clone, Copy, Debug, PartialEq, Eq)]
 pub struct Header {
     pub width: u64,

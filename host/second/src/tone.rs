@@ -237,6 +237,8 @@ pub fn levels(pixels: impl Iterator<Item = Pixel>, header: &Header, average: Opt
 #[cfg(test)]
 mod tests {
     use super::*;
+    use crate::whole::Whole;
+    use std::ops::RangeInclusive;
 
     /// 1 as it is stored.
     const FULL: Number = Number {
@@ -244,10 +246,18 @@ mod tests {
         mantissa: 255,
     };
 
-    /// Every stored number that a scaled luminance can be, "E is 1 to 246", and its display luminance by step 5's own rule.
+    /// Around the limits 10 and 1,000 and the powers of ten.
+    const WHITES: [u64; 6] = [10, 11, 99, 100, 999, 1000];
+
+    /// Every stored number with one of these exponents, and its display luminance by step 5's own rule.
+    fn displays_of(exponents: RangeInclusive<i32>, white: Option<u64>) -> impl Iterator<Item = (Number, Number)> {
+        let scaled = exponents.flat_map(|exponent| (128..=255).map(move |mantissa| Number { exponent, mantissa }));
+        scaled.map(move |scaled| (scaled, display_luminance(scaled, white)))
+    }
+
+    /// Every stored number that a scaled luminance can be, "E is 1 to 246", on a strip without a white word.
     fn displays() -> impl Iterator<Item = (Number, Number)> {
-        let scaled = (1..=246).flat_map(|exponent| (128..=255).map(move |mantissa| Number { exponent, mantissa }));
-        scaled.map(|scaled| (scaled, display_luminance(scaled, None)))
+        displays_of(1..=246, None)
     }
 
     /// Change 2026-04: "E below 114, E above 152, and between. Below, the outcome is the stored scaled luminance itself;
@@ -291,4 +301,94 @@ mod tests {
             assert_eq!(display == FULL, full, "{scaled:?}");
         }
     }
+
+    /// w = 1: L(1 + L)/(1 + L) is L.
+    #[test]
+    fn white_point_of_one() {
+        for (scaled, display) in displays_of(1..=246, Some(10)) {
+            assert_eq!(display, scaled);
+        }
+    }
+
+    /// The dark case for every W: as w is at least 1, the outcome lies between L/(1+L) and L, which are stored alike there.
+    #[test]
+    fn dark_case_with_white() {
+        for white in WHITES {
+            assert!(displays_of(1..=119, Some(white)).all(|(scaled, display)| display == scaled));
+        }
+        for white in 10..=1000 {
+            assert!(displays_of(112..=113, Some(white)).all(|(scaled, display)| display == scaled));
+        }
+    }
+
+    /// L(1 + L/w²)/(1 + L) is below 1 where L is below w, and above 1 where L is above: the exponent of the outcome is above 128
+    /// exactly if 10(2M+1) · 2^(E−137) is above W. They are never equal, as 10(2M+1) is above 2 · 1,000 and has one factor of two.
+    #[test]
+    fn white_burns_out() {
+        for white in 10..=1000 {
+            let above_white = |scaled: &Number| match scaled.exponent - 137 {
+                power @ 0.. => (10 * scaled.significand()) << power > white,
+                power => 10 * scaled.significand() > white << -power,
+            };
+            for (scaled, display) in displays_of(127..=136, Some(white)) {
+                assert_eq!(display.exponent > 128, above_white(&scaled), "W {white}, {scaled:?}");
+            }
+        }
+    }
+
+    /// Above E 152, where L/(1+L) is nearly 1 and the outcome L/w² + (1 − 1/w²) · L/(1+L).
+    ///
+    /// (153,128) is 257 · 2^16 = 16,842,752. Over 1.21, with 0.17 more: 13,919,629.9 = 212.4 · 2^16. Over 98.01, with 0.99 more:
+    /// 171,848.3 = 167.8 · 2^10; over 100: 168,428.5 = 164.5 · 2^10. Over 9,980.01, with 1 more: 1,688.65 = 211.1 · 2^3; over
+    /// 10,000: 1,685.28 = 210.7 · 2^3.
+    ///
+    /// (246,132) is 265 · 2^109. Over 1.21 it is 219.008 · 2^109, over 98.01 173.04 · 2^103, over 100 169.6 · 2^103, over 9,980.01
+    /// 217.52 · 2^96, over 10,000 217.09 · 2^96.
+    #[test]
+    fn bright_case_with_white() {
+        let outcomes = |exponent, mantissa| {
+            let scaled = Number { exponent, mantissa };
+            WHITES.map(|white| {
+                let display = display_luminance(scaled, Some(white));
+                (display.exponent, display.mantissa)
+            })
+        };
+        assert_eq!(
+            outcomes(153, 128),
+            [(153, 128), (152, 212), (146, 167), (146, 164), (139, 211), (139, 210)]
+        );
+        assert_eq!(
+            outcomes(246, 132),
+            [(246, 132), (245, 219), (239, 173), (239, 169), (232, 217), (232, 217)]
+        );
+    }
+
+    /// The storing rule on L/w² + (1 − 1/w²) · L/(1+L) in whole numbers of any size. With L = p/q and w² = W²/100, that is
+    /// (100p(q + p) + (W² − 100)pq) / (W²q(q + p)) = n/d, and "2^(E−129) < F ≤ 2^(E−128)", "M is F · 2^(136−E) rounded down,
+    /// and 255 where that gives 256".
+    #[test]
+    fn stored_with_white() {
+        let times = |factors: &[&Whole]| factors.iter().fold(Whole::one(), |product, factor| product.times(factor));
+        for (white, exponents) in WHITES.into_iter().flat_map(|white| EXPONENTS.map(|exponents| (white, exponents))) {
+            for (scaled, display) in displays_of(exponents.0..=exponents.1, Some(white)).step_by(7) {
+                let power = scaled.exponent - 137;
+                let p = Whole::from(scaled.significand()).shifted_left(power.max(0) as usize);
+                let q = Whole::power_of_two((-power).max(0) as usize);
+                let (sum, squared) = (p.plus(&q), white * white);
+                let n = times(&[&Whole::from(100), &p, &sum]).plus(&times(&[&Whole::from(squared - 100), &p, &q]));
+                let d = times(&[&Whole::from(squared), &q, &sum]);
+                // F · 2^(136−E) against M and M + 1, both sides times a power of two.
+                let shift = 136 - display.exponent;
+                let above = n.shifted_left(shift.max(0) as usize);
+                let below = d.shifted_left((-shift).max(0) as usize);
+                let part = |mantissa: u32| below.times_small(mantissa as u64);
+                let mantissa = display.mantissa;
+                assert!(part(128) < above && above <= part(256), "W {white}, {scaled:?}");
+                assert!(part(mantissa) <= above && (above < part(mantissa + 1) || mantissa == 255));
+            }
+        }
+    }
+
+    /// The exponents around the limits of the cases, of every case, and those that a page hardly reaches.
+    const EXPONENTS: [(i32, i32); 5] = [(1, 4), (110, 124), (126, 140), (148, 172), (182, 246)];
 }

@@ -34,6 +34,14 @@ pub fn taking_dark_pages() -> SecondStep {
     })
 }
 
+/// Without 2026-05: no strip has a white word.
+pub fn without_white() -> SecondStep {
+    SecondStep::new(Rules {
+        white_word: false,
+        ..Rules::BUILT
+    })
+}
+
 pub fn header(width: u64, height: u64, key: u64) -> Header {
     Header {
         width,
@@ -130,7 +138,7 @@ impl Fault {
     }
 }
 
-const fn fault(word: (usize, u32), number: u64, place: Option<usize>) -> Fault {
+pub const fn fault(word: (usize, u32), number: u64, place: Option<usize>) -> Fault {
     Fault { word, number, place }
 }
 
@@ -159,6 +167,20 @@ pub const UNLIKE: [Fault; 2] = [fault((0, 0x10004002), 21, None), fault((1, 0x20
 /// Puts the fault into the strip that begins at `start`.
 pub fn set(row: &mut [u32], start: usize, fault: &Fault) {
     row[start + fault.word.0] = fault.word.1;
+}
+
+/// What every call on a strip answers, the row asked and the room lent being good; a reader does at every step.
+pub fn on_strip(step: &SecondStep, strip: &[u32]) -> Result<(), Refusal> {
+    let answer = step.check(strip);
+    assert_eq!(step.header(strip).map(|_| ()), answer);
+    assert_eq!(step.row(strip, 0).map(|_| ()), answer);
+    for n in [0, 1, 2, u64::MAX] {
+        assert_eq!(step.reader_step(strip, n).map(|_| ()), answer);
+    }
+    assert_eq!(step.unpack(strip, NO_ROOM_LIMIT).map(|_| ()), answer);
+    assert_eq!(step.tally(strip).map(|_| ()), answer);
+    assert_eq!(step.levels(strip, NO_ROOM_LIMIT).map(|_| ()), answer);
+    answer
 }
 
 /// What every call on a row answers, the room lent being good and the page no dark one.

@@ -8,4 +8,5 @@ mod extremes;
 mod helpers;
 mod nearness;
 mod refusals;
+mod white;
 mod whole_numbers;

@@ -3,9 +3,8 @@
 use crate::helpers::*;
 use second::{Average, Rules, SecondStep};
 
-fn step(white_word: bool, nearest_steps: bool) -> SecondStep {
+fn step(nearest_steps: bool) -> SecondStep {
     SecondStep::new(Rules {
-        white_word,
         nearest_steps,
         ..Rules::BUILT
     })
@@ -17,7 +16,7 @@ fn mean_bounds() {
     let strip = half_strip(&built(), &grey(&[ONE]), 180);
     let holding: Vec<i64> = (-5..5).filter(|&steps| built().mean_holds(&strip, steps)).collect();
     assert_eq!(holding, [-2, -1]);
-    let nearest = step(false, true);
+    let nearest = step(true);
     let holding: Vec<i64> = (-5..5).filter(|&steps| nearest.mean_holds(&strip, steps)).collect();
     assert_eq!(holding, [-2, -1]);
     assert!((built().mean_above(&strip, -1) - 0.278).abs() < 0.001);
@@ -29,14 +28,14 @@ fn mean_bounds_differ() {
     let strip = stored_strip(&built(), &grey(&[stored(136, 192)]), 180, None);
     let holding = |step: SecondStep| (1930..1950).filter(|&steps| step.mean_holds(&strip, steps)).collect::<Vec<i64>>();
     assert_eq!(holding(built()), [1941, 1942]);
-    assert_eq!(holding(step(false, true)), [1942, 1943]);
+    assert_eq!(holding(step(true)), [1942, 1943]);
 }
 
 #[test]
 fn mean_of_wild_reports() {
     let strip = half_strip(&built(), &grey(&[ONE]), 180);
     for steps in [i64::MIN, i64::MAX] {
-        assert!(!built().mean_holds(&strip, steps) && !step(false, true).mean_holds(&strip, steps));
+        assert!(!built().mean_holds(&strip, steps) && !step(true).mean_holds(&strip, steps));
     }
     let unlit = half_strip(&built(), &grey(&[BLACK]), 180);
     for step in [built(), taking_dark_pages()] {
@@ -65,7 +64,7 @@ fn dark_pages() {
 fn means_of_generated_pages() {
     let mut generator = Generator::new(7);
     for nearest in [false, true] {
-        let step = step(false, nearest);
+        let step = step(nearest);
         let (least, limit) = if nearest { (-0.5, 1.5) } else { (0.0, 2.0) };
         for pixels in [1, 2, 3, 10, 40, 150] {
             let strip = stored_strip(&step, &generator.page(pixels), 180, None);
@@ -93,10 +92,9 @@ const ONE_AVERAGE: Average = Average {
 
 /// The levels that pass for all three channels of one grey pixel under an average of its own worth.
 fn passing(key: u64, white: Option<u64>) -> Vec<u8> {
-    let step = step(true, false);
-    let strip = stored_strip(&step, &[stored(128, 255); 3], key, white);
+    let strip = stored_strip(&built(), &[stored(128, 255); 3], key, white);
     (0..=255)
-        .filter(|&level| step.level_distances(&strip, ONE_AVERAGE, &[level; 3]).first_failure.is_none())
+        .filter(|&level| built().level_distances(&strip, ONE_AVERAGE, &[level; 3]).first_failure.is_none())
         .collect()
 }
 
@@ -112,6 +110,27 @@ fn level_bounds() {
 fn level_bounds_with_white() {
     assert_eq!(passing(1000, Some(10)), [253, 254, 255]);
     assert_eq!(passing(1000, Some(20)), [157, 158, 159, 160, 161]);
+}
+
+/// Red (154,255) is 2^21 times green (133,255): Y is 0.27 · 2^21 + 0.67 = 566,231.7 times the green, and L 32 times that,
+/// 18,119,415. With w = 10 the operator is 181,194.1 + 0.99, and the green's exact value 255 · 181,195.1/566,231.7 = 81.6; with
+/// w = 100 it is 255 · 1,812.94/566,231.7 = 0.816, and without the white point nearly nothing. The red's is clipped.
+#[test]
+fn level_bounds_far_above_white() {
+    let source = [stored(154, 255), stored(133, 255), BLACK];
+    let passing = |white| {
+        let strip = stored_strip(&built(), &source, 1000, white);
+        let near = |green: &u8| {
+            built()
+                .level_distances(&strip, ONE_AVERAGE, &[255, *green, 0])
+                .first_failure
+                .is_none()
+        };
+        (0..=255).filter(near).collect::<Vec<u8>>()
+    };
+    assert_eq!(passing(Some(100)), [80, 81, 82, 83, 84]);
+    assert_eq!(passing(Some(1000)), [0, 1, 2, 3]);
+    assert_eq!(passing(None), [0, 1, 2]);
 }
 
 #[test]
@@ -142,7 +161,7 @@ fn clipped_values() {
 fn levels_of_generated_pages() {
     let mut generator = Generator::new(8);
     for round in 0..300 {
-        let step = step(true, round % 2 == 0);
+        let step = step(round % 2 == 0);
         let white = if round % 3 == 0 { None } else { Some(10 + generator.below(991)) };
         let strip = stored_strip(&step, &generator.page(30), 1 + generator.below(1000), white);
         let tally = step.tally(&strip).unwrap();
@@ -155,7 +174,6 @@ fn levels_of_generated_pages() {
 /// Any average, key, white point and channel fit in the numbers' width.
 #[test]
 fn wild_averages() {
-    let step = step(true, false);
     let channels = [BLACK, stored(72, 128), stored(72, 255), stored(184, 255)];
     let source: Vec<u16> = (0..192)
         .map(|place| channels[[place / 3 % 4, place / 12 % 4, place / 48][place % 3]])
@@ -168,7 +186,7 @@ fn wild_averages() {
         (1000, Some(10)),
         (1, Some(1000)),
     ] {
-        let strip = stored_strip(&step, &source, key, white);
+        let strip = stored_strip(&built(), &source, key, white);
         for exponent in 0..=255 {
             for mantissa in [0, 128, 255] {
                 let average = Average {
@@ -176,7 +194,7 @@ fn wild_averages() {
                     exponent,
                     mantissa,
                 };
-                assert_eq!(step.level_distances(&strip, average, &[0; 192]).compared, 189);
+                assert_eq!(built().level_distances(&strip, average, &[0; 192]).compared, 189);
             }
         }
     }
@@ -185,7 +203,6 @@ fn wild_averages() {
 /// The widest numbers of mapping: the least and the greatest scaled luminance, with and without a white point.
 #[test]
 fn extreme_pages() {
-    let step = step(true, false);
     let dark = [BLACK, BLACK, stored(72, 128)];
     let bright = [stored(184, 255); 3];
     for (few, many) in [(dark, bright), (bright, dark)] {
@@ -198,9 +215,9 @@ fn extreme_pages() {
             (1, Some(1000)),
         ] {
             let source = [vec![few; 1], vec![many; 8000]].concat().concat();
-            let strip = stored_strip(&step, &source, key, white);
-            let average = step.tally(&strip).unwrap().average.unwrap();
-            let found = step.level_distances(&strip, average, &levels(&step, &strip));
+            let strip = stored_strip(&built(), &source, key, white);
+            let average = built().tally(&strip).unwrap().average.unwrap();
+            let found = built().level_distances(&strip, average, &levels(&built(), &strip));
             assert_eq!((found.compared, found.first_failure), (24_003, None));
         }
     }

@@ -80,20 +80,6 @@ fn stored_elements() {
     }
 }
 
-/// What every call on a strip answers, the row asked and the room lent being good; a reader does at every step.
-fn on_strip(step: &SecondStep, strip: &[u32]) -> Result<(), Refusal> {
-    let answer = step.check(strip);
-    assert_eq!(step.header(strip).map(|_| ()), answer);
-    assert_eq!(step.row(strip, 0).map(|_| ()), answer);
-    for n in [0, 1, 2, u64::MAX] {
-        assert_eq!(step.reader_step(strip, n).map(|_| ()), answer);
-    }
-    assert_eq!(step.unpack(strip, NO_ROOM_LIMIT).map(|_| ()), answer);
-    assert_eq!(step.tally(strip).map(|_| ()), answer);
-    assert_eq!(step.levels(strip, NO_ROOM_LIMIT).map(|_| ()), answer);
-    answer
-}
-
 fn with(changes: &[(usize, u32)]) -> Vec<u32> {
     let mut strip = EXAMPLE.to_vec();
     for &(place, word) in changes {
@@ -216,9 +202,12 @@ fn nothing_panics() {
     for step in [built(), taking_dark_pages(), all] {
         for _ in 0..2000 {
             let mut strip = EXAMPLE.to_vec();
-            strip.truncate(generator.below(12) as usize);
+            if generator.below(2) == 0 {
+                strip.insert(2, 0x30000000 | generator.below(1024) as u32);
+            }
+            strip.truncate(generator.below(13) as usize);
             for _ in 0..generator.below(3) {
-                let place = generator.below(9) as usize;
+                let place = generator.below(10) as usize;
                 if let Some(word) = strip.get_mut(place) {
                     *word ^= 1 << generator.below(32);
                 }
