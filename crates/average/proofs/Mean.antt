@@ -3,6 +3,7 @@ use mathlib.Core.Path.{_≡_, refl, sym, ap, _∙_, subst}
 use mathlib.Core.List.{List, [], _∷_}
 use Prim.Native.Nat.{ℕ, suc, _+_, _*_, _/_, _^_, _≤_, _<_}
 use native.Mathlib.Nat.{mul-le-mul-left, mul-le-mul-right, mul-lt-mul-of-pos-left, mul-lt-mul-of-pos-right}
+use native.Mathlib.Numerals.{add-one}
 use native.Mathlib.Omega.{arith}
 use lib.IntN.{ℤ, pos, subℕ, _+ℤ_, _-ℤ_, _*ℤ_}
 use lib.ListN.{length}
@@ -107,14 +108,11 @@ module _ (s l : ℕ) (rounded : (M : ℕ) → IsMantissa M → Rounded s l M) wh
             exponent : (q * s + above) * N + 137 * N * (256 * s) ≡ 34816 * s * N + (s * (q + 2) + l) * N
             exponent = omega (arith, ap (λ (x : ℕ). N * x) b, ap (λ (x : ℕ). N * x) c)
 
--- T is rounded down
-rounded-down : (M : ℕ) → IsMantissa M → Rounded 1 256 M
-rounded-down M m =
-    let e : 1 * logOf M + 256 ≡ logOf M + 256 = omega arith in
-    let f : 1 * (logOf M + 1) + 256 ≡ suc (logOf M) + 256 = omega arith in
-    record { low = rw e (log-below M m); high = rw f (log-above M m) }
+-- T is rounded to the nearest step
+rounded-nearest : (M : ℕ) → IsMantissa M → Rounded 2 511 M
+rounded-nearest M m = record { low = log-below M m; high = rw (add-one (logOf M)) (log-above M m) }
 
 pub mean-bound : MeanIsBounded
 mean-bound ys h A average e =
     let r = reported (length ys) (sumOf ys) e in
-    subst (λ z. MeanBound z ys) (r .steps) (mean-within 1 256 rounded-down _ _ refl refl ys h (r .lit))
+    subst (λ z. MeanBound z ys) (r .steps) (mean-within 2 511 rounded-nearest _ _ refl refl ys h (r .lit))

@@ -1,7 +1,7 @@
 -- What steps 2 and 3 say of their numbers, what a tally's extremes are, and the first half of demand 3: the average against the true
--- logarithm of the mean. Assumes nothing. Proved as `entries-greatest` (proofs/Rules.antt), `floor-divides` (proofs/Division.antt),
--- `averages-in-range` (proofs/Averages.antt), `extremes-hold` and `extremes-one` (proofs/Widening.antt), `tallies-join` (proofs/Sums.antt) and
--- `mean-bound` (proofs/Mean.antt).
+-- logarithm of the mean. Assumes nothing. Proved as `logs-nearest`, `no-tie` and `roots-greatest` (proofs/Rules.antt), `floor-divides`
+-- (proofs/Division.antt), `averages-in-range` (proofs/Averages.antt), `extremes-hold` and `extremes-one` (proofs/Widening.antt),
+-- `tallies-join` (proofs/Sums.antt) and `mean-bound` (proofs/Mean.antt).
 use mathlib.Core.Path.{_≡_}
 use mathlib.Core.List.{List, [], _∷_, _++_}
 use Prim.Native.Nat.{ℕ, _+_, _*_, _^_, _≤_, _<_}
@@ -20,20 +20,27 @@ use Rattle.average.specs.declared.tally.Extremes.the-variants.{Absent, B
 
 -- ---- steps 2 and 3
 
--- "the greatest t with 2^(t+256) ≤ (2M+1)^256"
-pub record LogIsGreatest (M : ℕ) : Type 0 where
-  pub passes : 2 ^ (logOf M + 256) ≤ (2 * M + 1) ^ 256
-  pub greatest : (t : ℕ) → 2 ^ (t + 256) ≤ (2 * M + 1) ^ 256 → t ≤ logOf M
+-- "the whole number nearest to 256 · log2(M + 1/2)": less than half a step away, 2T − 1 < 512 · log2(M + 1/2) < 2T + 1
+pub record LogIsNearest (M : ℕ) : Type 0 where
+  pub low : 2 ^ (2 * logOf M + 511) < (2 * M + 1) ^ 512
+  pub high : (2 * M + 1) ^ 512 < 2 ^ (2 * logOf M + 513)
+
+-- of every mantissa
+abbrev pub LogsAreNearest : Type 0
+LogsAreNearest = (M : ℕ) → 128 ≤ M → M ≤ 255 → LogIsNearest M
+
+-- "no entry is a tie": half-way between t − 1 and t the two sides of the rule would be equal, for any M
+abbrev pub NoTie : Type 0
+NoTie = (M t : ℕ) → 2 ^ (2 * t + 511) ≡ (2 * M + 1) ^ 512 → ⊥
 
 -- "the greatest m with m^256 ≤ 2^(1792+f)"
 pub record RootIsGreatest (f : ℕ) : Type 0 where
   pub passes : rootOf f ^ 256 ≤ 2 ^ (1792 + f)
   pub greatest : (m : ℕ) → m ^ 256 ≤ 2 ^ (1792 + f) → m ≤ rootOf f
 
--- T[M] of every mantissa, and X[f], "f 0 to 255"
-pub record EntriesAreGreatest : Type 0 where
-  pub log : (M : ℕ) → 128 ≤ M → M ≤ 255 → LogIsGreatest M
-  pub root : (f : ℕ) → f ≤ 255 → RootIsGreatest f
+-- "f 0 to 255"
+abbrev pub RootsAreGreatest : Type 0
+RootsAreGreatest = (f : ℕ) → f ≤ 255 → RootIsGreatest f
 
 -- z is n times its quotient and a rest from 0 to n − 1: "rounded toward minus infinity", "A = 256q + f, f 0 to 255"
 pub record Divided (z : ℤ) (n : ℕ) : Type 0 where
@@ -102,9 +109,10 @@ pub record MeanWithin (s below above : ℕ) (A : ℤ) (ys : List Stored) : Type 
   pub low : AtMost (twoToThe ((A *ℤ pos s -ℤ pos below) *ℤ pos (length ys))) (power (productOfWorths ys) (256 * s))
   pub high : Below (power (productOfWorths ys) (256 * s)) (twoToThe ((A *ℤ pos s +ℤ pos above) *ℤ pos (length ys)))
 
--- "2^(A·N) is at most P^256, and P^256 is below 2^((A+2)·N)"
+-- "The true logarithm of the mean now lies at most half a step below the reported steps and less than one and a half above": in halves of a
+-- step, 2^((2A − 1)·N) ≤ P^512 < 2^((2A + 3)·N)
 abbrev pub MeanBound : ℤ → List Stored → Type 0
-MeanBound A ys = MeanWithin 1 0 2 A ys
+MeanBound A ys = MeanWithin 2 1 3 A ys
 
 -- for every list of luminances and the A that its tally reports: none, where the list is empty
 abbrev pub MeanIsBounded : Type 0

@@ -8,10 +8,10 @@ unfoldable pub greatest : (ℕ → Bool) → ℕ → ℕ
 greatest test zero = zero
 greatest test (suc n) = cond (test (suc n)) (suc n) (greatest test n)
 
--- "T[M] is 256 · log2(M + 1/2) rounded down, that is, the greatest t with 2^(t+256) ≤ (2M+1)^256", for M from 1. No M up to 255 has
--- a t above 2047.
+-- "T[M] becomes the whole number nearest to 256 · log2(M + 1/2)": the greatest t that lies at most half a step above it, 2t − 1 ≤
+-- 512 · log2(M + 1/2), which is 2^(2t − 1 + 512) ≤ (2M+1)^512; for M from 1. No M up to 255 has a t above 2047.
 unfoldable pub logTest : (M t : ℕ) → Bool
-logTest M t = leb (2 ^ (t + 256)) ((2 * M + 1) ^ 256)
+logTest M t = leb (2 ^ (2 * t + 511)) ((2 * M + 1) ^ 512)
 
 unfoldable pub logOf : ℕ → ℕ
 logOf M = greatest (logTest M) 2047

@@ -141,9 +141,9 @@ table =
     -- "▲ single 23000000 black", "▲ 5B800001 refused 6"
     single 0x23000000 gives black ∷
     single 0x5B800001 gives refused 6 ∷
-    -- "▲ T[128] = 1793, T[192] = 1942, T[255] = 2047; ▲ X[128] = 181"
+    -- "▲ T[128] = 1793 .. T[255] = 2047; ▲ X[128] = 181", and "T[192] becomes 1943, T[128] stays 1793"
     log 128 gives entry 1793 ∷
-    log 192 gives entry 1942 ∷
+    log 192 gives entry 1943 ∷
     log 255 gives entry 2047 ∷
     root 128 gives entry 181 ∷
     -- "▲ Greys 1.0 and 0.5: A = −129, average (128,180), levels 52 and 29. Greys 1.0, 1.0, 0.5: A = −87", under the "K 180" of

@@ -31,8 +31,8 @@ use Rattle.page.specs.Mapping.{toneOf, stripLevels}
 
 -- ---- the two halves
 
--- "2^(A·N) is at most P^256, and P^256 is below 2^((A+2)·N)": N is the number of lit pixels, P the product of the worths of their
--- luminances as stored
+-- "at most half a step below the reported steps and less than one and a half above": 2^((2A − 1)·N) ≤ P^512 < 2^((2A + 3)·N), N the number of
+-- lit pixels, P the product of the worths of their luminances as stored
 pub record MeanHalf (ps : List Pixel) (A : ℤ) : Type 0 where
   pub count : length (luminancesOf ps) ≡ litCount ps
   pub mean : MeanBound A (luminancesOf ps)
