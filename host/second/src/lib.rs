@@ -32,18 +32,18 @@ pub struct Rules {
     pub dark_page: bool,
     /// 2026-05: a strip may carry a white point.
     pub white_word: bool,
-    /// 2026-06: T is rounded to the nearest step.
+    /// 2026-06: T is rounded to the nearest step, and the bound on the mean follows.
     pub nearest_steps: bool,
     /// 2026-07: the picture program prints through the screen curve.
     pub screen_curve: bool,
 }
 
 impl Rules {
-    /// What is built now: document 01 with 2026-01 to 2026-05, the fourth of which changes no answer.
+    /// What is built now: document 01 with 2026-01 to 2026-06, the fourth of which changes no answer.
     pub const BUILT: Rules = Rules {
         dark_page: true,
         white_word: true,
-        nearest_steps: false,
+        nearest_steps: true,
         screen_curve: false,
     };
 }

@@ -25,8 +25,9 @@ impl LevelDistances {
     };
 }
 
-/// The first half: "2^(A·N) is at most P^256, and P^256 is below 2^((A+2)·N)". To the nearest step it is
-/// A − 1/2 and A + 3/2, "both sides squared": 2^((2A−1)·N) ≤ P^512 < 2^((2A+3)·N).
+/// The first half: "The true logarithm of the mean now lies at most half a step below the reported steps and less than
+/// one and a half above", that is, with "both sides squared", 2^((2A−1)·N) ≤ P^512 < 2^((2A+3)·N). With T rounded down it
+/// is document 01's: "2^(A·N) is at most P^256, and P^256 is below 2^((A+2)·N)".
 ///
 /// P is Q · 2^S with Q the product of the significands 2M+1 and S the sum of the E−137; the power of two is moved
 /// across. Without a lit pixel there is no mean, and nothing holds of it.

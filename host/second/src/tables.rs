@@ -9,13 +9,13 @@ pub fn steps_table(nearest: bool) -> Vec<i64> {
         .collect()
 }
 
-/// "the greatest t with 2^(t+256) ≤ (2M+1)^256".
+/// Document 01's rule: "rounded down, that is, the greatest t with 2^(t+256) ≤ (2M+1)^256".
 fn lower_steps(mantissa: u64) -> i64 {
     greatest_power(&Whole::from(2 * mantissa + 1).pow(256)) - 256
 }
 
-/// "the whole number nearest to 256 · log2(M + 1/2); no entry is a tie": the greatest t with
-/// t − 1/2 ≤ 256 · log2(M + 1/2), that is, 2^(2t−1+512) ≤ (2M+1)^512.
+/// Change 2026-06: "the whole number nearest to 256 · log2(M + 1/2); no entry is a tie", that is, the greatest t with
+/// t − 1/2 ≤ 256 · log2(M + 1/2), or 2^(2t−1+512) ≤ (2M+1)^512.
 fn nearest_steps(mantissa: u64) -> i64 {
     let twice = greatest_power(&Whole::from(2 * mantissa + 1).pow(512)) - 512;
     (twice + 1).div_euclid(2)
@@ -66,18 +66,18 @@ fn curved_sample(level: u64) -> u8 {
 mod tests {
     use super::*;
 
-    /// Both sides of the rule for every entry: 2^(t+256) ≤ (2M+1)^256 < 2^(t+257).
+    /// Both sides of document 01's rule for every entry: 2^(t+256) ≤ (2M+1)^256 < 2^(t+257).
     #[test]
-    fn every_entry_of_t() {
+    fn every_entry_of_t_rounded_down() {
         for (mantissa, &t) in (128..=255).zip(&steps_table(false)) {
             let power = Whole::from(2 * mantissa + 1).pow(256);
             assert!(Whole::power_of_two(t as usize + 256) <= power && power < Whole::power_of_two(t as usize + 257));
         }
     }
 
-    /// 2^(2t−1) < (M + 1/2)^512 < 2^(2t+1), and never a tie.
+    /// 2^(2t−1) < (M + 1/2)^512 < 2^(2t+1): never a tie.
     #[test]
-    fn every_nearest_entry_of_t() {
+    fn every_entry_of_t() {
         let table = steps_table(true);
         for (mantissa, &t) in (128..=255).zip(&table) {
             let power = Whole::from(2 * mantissa + 1).pow(512);

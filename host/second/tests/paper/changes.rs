@@ -1,14 +1,7 @@
-//! The switches that are off: changes 2026-06 and 2026-07.
+//! The switch that is off, change 2026-07, and all settings of the switches.
 
 use crate::helpers::*;
-use second::{Header, Rules, SecondStep, Source, Tally};
-
-fn nearest() -> SecondStep {
-    SecondStep::new(Rules {
-        nearest_steps: true,
-        ..Rules::BUILT
-    })
-}
+use second::{Header, Rules, SecondStep, Source};
 
 fn screen() -> SecondStep {
     SecondStep::new(Rules {
@@ -37,31 +30,6 @@ fn cuttings_under_every_rule() {
             }
         }
     }
-}
-
-#[test]
-fn nearest_table() {
-    for (mantissa, steps) in [(128, 1793), (192, 1943), (255, 2047)] {
-        let strip = stored_strip(&built(), &grey(&[stored(136, mantissa)]), 180, None);
-        assert_eq!(nearest().tally(&strip).unwrap().sum, steps);
-    }
-}
-
-/// Steps 1943 = 7 · 256 + 151; 2^(7 + 151/256) = 192.6..., so the average is (136,192).
-#[test]
-fn nearest_average() {
-    let strip = stored_strip(&nearest(), &grey(&[stored(136, 192)]), 180, None);
-    let Tally { sum, average, .. } = nearest().tally(&strip).unwrap();
-    let average = average.unwrap();
-    assert_eq!((sum, average.steps, average.exponent, average.mantissa), (1943, 1943, 136, 192));
-}
-
-/// Two bands of that pixel have twice its steps.
-#[test]
-fn nearest_bands() {
-    let row = stored_strip(&nearest(), &grey(&[stored(136, 192)]), 180, None).repeat(2);
-    let tally = nearest().tally_of_bands(&row).unwrap();
-    assert_eq!((tally.lit, tally.sum, tally.average.unwrap().steps), (2, 3886, 1943));
 }
 
 /// Document 01's program "now ends 70 70 70 50 50 50"; "Level 39 prints as 95"; mapping keeps its levels.

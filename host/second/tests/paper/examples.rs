@@ -98,11 +98,13 @@ fn all_sources_agree() {
     }
 }
 
-/// A grey pixel of exponent 136 has T[M] steps.
+/// A grey pixel of exponent 136 has T[M] steps: "T[192] becomes 1943, T[128] stays 1793" (change 2026-06). 256 · log2 of 128.5,
+/// of 192.5 and of 255.5 is 1793.44, 1942.71 and 2047.28.
 #[test]
 fn steps_table() {
-    for (mantissa, steps) in [(128, 1793), (192, 1942), (255, 2047)] {
+    for (mantissa, plate, steps) in [(128, 1793, 1793), (192, 1942, 1943), (255, 2047, 2047)] {
         let strip = stored_strip(&built(), &grey(&[stored(136, mantissa)]), 180, None);
+        assert_eq!(rounded_down().tally(&strip).unwrap().sum, plate);
         assert_eq!(built().tally(&strip).unwrap().sum, steps);
     }
 }
@@ -203,7 +205,7 @@ fn grey_and_black() {
     assert_eq!(levels(&built(), &strip), [39, 39, 39, 0, 0, 0]);
 }
 
-/// The luminance (127,137) has steps 256 · (−9) + T[137], and 256 · log2(137.5) = 1818.55...; a level above 255 is 255.
+/// The luminance (127,137) has steps 256 · (−9) + T[137], and 256 · log2(137.5) = 1818.44...; a level above 255 is 255.
 #[test]
 fn red_alone() {
     let strip = half_strip(&built(), &[ONE, BLACK, BLACK], 180);
@@ -224,16 +226,6 @@ fn tiny_channel_decides_the_exponent() {
     };
     assert_eq!(steps(BLACK), -256 + 2047);
     assert_eq!(steps(stored(72, 128)), 1793);
-}
-
-/// The limits of luminance: the darkest blue is 128.5 · 6/100 · 2^-64, stored as (67,246), and 256 · log2(246.5) is
-/// 2034.02...; the least and greatest A are −15,630 and 14,335 (change 2026-12).
-#[test]
-fn extremes() {
-    let darkest = stored_strip(&built(), &[BLACK, BLACK, stored(72, 128)], 180, None);
-    assert_eq!(built().tally(&darkest).unwrap().sum, -15_630);
-    let brightest = stored_strip(&built(), &grey(&[stored(184, 255)]), 180, None);
-    assert_eq!(built().tally(&brightest).unwrap().sum, 14_335);
 }
 
 /// Document 01's answer, and that of 2026-03: "The all-black answer of document 01 no longer occurs there."

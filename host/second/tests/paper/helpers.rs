@@ -42,6 +42,14 @@ pub fn without_white() -> SecondStep {
     })
 }
 
+/// Without 2026-06: T is rounded down, as by document 01.
+pub fn rounded_down() -> SecondStep {
+    SecondStep::new(Rules {
+        nearest_steps: false,
+        ..Rules::BUILT
+    })
+}
+
 pub fn header(width: u64, height: u64, key: u64) -> Header {
     Header {
         width,
@@ -96,6 +104,15 @@ pub fn stored_strip(step: &SecondStep, source: &[u16], key: u64, white: Option<u
 /// Each value three times.
 pub fn grey(values: &[u16]) -> Vec<u16> {
     values.iter().flat_map(|&value| [value; 3]).collect()
+}
+
+/// A row of bands of one grey pixel each, of the key 180.
+pub fn grey_bands(greys: &[u16]) -> Vec<u32> {
+    let step = built();
+    greys
+        .iter()
+        .flat_map(|&value| stored_strip(&step, &[value; 3], 180, None))
+        .collect()
 }
 
 /// A page of the key 180 whose first pixels are grey 1.0 and whose others are black.

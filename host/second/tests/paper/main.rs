@@ -6,6 +6,7 @@ mod dark_pages;
 mod examples;
 mod extremes;
 mod helpers;
+mod nearest_steps;
 mod nearness;
 mod refusals;
 mod white;

@@ -1,41 +1,60 @@
 //! Demand 3: the two checks accept what lies inside the bounds and nothing outside.
 
 use crate::helpers::*;
-use second::{Average, Rules, SecondStep};
+use second::{Average, SecondStep};
 
-fn step(nearest_steps: bool) -> SecondStep {
-    SecondStep::new(Rules {
-        nearest_steps,
-        ..Rules::BUILT
-    })
+/// The steps that hold of a page, among those near the given ones.
+fn holding(step: &SecondStep, strip: &[u32], near: i64) -> Vec<i64> {
+    (near - 3..=near + 3).filter(|&steps| step.mean_holds(strip, steps)).collect()
 }
 
 /// One grey of (128,255): 256 · log2(255.5/256) = −0.722.
 #[test]
 fn mean_bounds() {
     let strip = half_strip(&built(), &grey(&[ONE]), 180);
-    let holding: Vec<i64> = (-5..5).filter(|&steps| built().mean_holds(&strip, steps)).collect();
-    assert_eq!(holding, [-2, -1]);
-    let nearest = step(true);
-    let holding: Vec<i64> = (-5..5).filter(|&steps| nearest.mean_holds(&strip, steps)).collect();
-    assert_eq!(holding, [-2, -1]);
+    for step in [built(), rounded_down()] {
+        assert_eq!(holding(&step, &strip, -1), [-2, -1]);
+    }
     assert!((built().mean_above(&strip, -1) - 0.278).abs() < 0.001);
 }
 
-/// One grey of (136,192): 256 · log2(192.5) = 1942.99.
+/// One grey of (136,192): 256 · log2(192.5) = 1942.71. It lies 1.71 above 1941 and 0.29 below 1943.
 #[test]
 fn mean_bounds_differ() {
     let strip = stored_strip(&built(), &grey(&[stored(136, 192)]), 180, None);
-    let holding = |step: SecondStep| (1930..1950).filter(|&steps| step.mean_holds(&strip, steps)).collect::<Vec<i64>>();
-    assert_eq!(holding(built()), [1941, 1942]);
-    assert_eq!(holding(step(true)), [1942, 1943]);
+    assert_eq!(holding(&rounded_down(), &strip, 1942), [1941, 1942]);
+    assert_eq!(holding(&built(), &strip, 1942), [1942, 1943]);
+}
+
+/// Pages and rows of bands near the limits, "at most half a step below the reported steps and less than one and a half above".
+/// 256 · log2 of 218.5 and of 154.5 is 1989.5013 and 1861.4945, so T[218] is 1990 and T[154] is 1861. Where one of 255 such greys
+/// is half as bright, the sum of steps is 255T − 256 = 255(T − 1) − 1, and A is T − 2; the true mean is 256/255 = 1.0039 below
+/// that of one grey, 1988.4974 and 1860.4906.
+#[test]
+fn mean_bounds_at_the_limits() {
+    let step = built();
+    let one_dimmer = |mantissa| [vec![stored(136, mantissa); 254], vec![stored(135, mantissa)]].concat();
+    for (greys, reported, above, bounds) in [
+        (vec![stored(136, 218)], 1990, -0.4987, [1989, 1990]),
+        (vec![stored(136, 154)], 1861, 0.4945, [1860, 1861]),
+        (one_dimmer(218), 1988, 0.4974, [1987, 1988]),
+        (one_dimmer(154), 1859, 1.4906, [1859, 1860]),
+    ] {
+        let row = grey_bands(&greys);
+        let strip = step.tall_strip(&row).unwrap();
+        for tally in [step.tally(&strip), step.tally_of_bands(&row)] {
+            assert_eq!(tally.unwrap().average.unwrap().steps, reported);
+        }
+        assert!((step.mean_above(&strip, reported) - above).abs() < 0.0001);
+        assert_eq!(holding(&step, &strip, reported), bounds);
+    }
 }
 
 #[test]
 fn mean_of_wild_reports() {
     let strip = half_strip(&built(), &grey(&[ONE]), 180);
     for steps in [i64::MIN, i64::MAX] {
-        assert!(!built().mean_holds(&strip, steps) && !step(true).mean_holds(&strip, steps));
+        assert!(!built().mean_holds(&strip, steps) && !rounded_down().mean_holds(&strip, steps));
     }
     let unlit = half_strip(&built(), &grey(&[BLACK]), 180);
     for step in [built(), taking_dark_pages()] {
@@ -63,9 +82,7 @@ fn dark_pages() {
 #[test]
 fn means_of_generated_pages() {
     let mut generator = Generator::new(7);
-    for nearest in [false, true] {
-        let step = step(nearest);
-        let (least, limit) = if nearest { (-0.5, 1.5) } else { (0.0, 2.0) };
+    for (step, least, limit) in [(rounded_down(), 0.0, 2.0), (built(), -0.5, 1.5)] {
         for pixels in [1, 2, 3, 10, 40, 150] {
             let strip = stored_strip(&step, &generator.page(pixels), 180, None);
             let Ok(tally) = step.tally(&strip) else {
@@ -161,7 +178,7 @@ fn clipped_values() {
 fn levels_of_generated_pages() {
     let mut generator = Generator::new(8);
     for round in 0..300 {
-        let step = step(round % 2 == 0);
+        let step = if round % 2 == 0 { built() } else { rounded_down() };
         let white = if round % 3 == 0 { None } else { Some(10 + generator.below(991)) };
         let strip = stored_strip(&step, &generator.page(30), 1 + generator.below(1000), white);
         let tally = step.tally(&strip).unwrap();

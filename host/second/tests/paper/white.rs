@@ -110,7 +110,7 @@ fn two_greys() {
 }
 
 /// "clipped only at the level". A red (154,255) with a dim blue has the luminance 68.985 · 2^18, stored as (153,137), and
-/// 256 · 17 + 1818 = 6170 steps, as 256 · log2(137.5) is 1818.5; a grey (104,237) has −256 · 32 + 2020, as 256 · log2(237.5)
+/// 256 · 17 + 1818 = 6170 steps, as 256 · log2(137.5) is 1818.4; a grey (104,237) has −256 · 32 + 2020, as 256 · log2(237.5)
 /// is 2020.3. The average of both is −1, (128,255). At K 1,000 the first pixel's scaled luminance is
 /// 137.5 · 2^25/255.5 = 137.77 · 2^17, stored as (153,137) again: L is 18,022,400. At w = 10 display luminance is
 /// 180,224 + 0.99, stored as 176.5 · 2^10. Of a blue (138,255), which is 255.5 · 2^2, the level would be
