@@ -19,7 +19,7 @@ pub struct Counts {
     pub edge: u64,
     /// The greatest distance of a level from the exact value.
     pub worst: f64,
-    /// Pages whose mean was checked exactly, and how far it lay above the reported average.
+    /// Pages whose mean was checked exactly, and how far it lay above the reported average, or below where that is negative.
     pub means: u64,
     pub mean_low: f64,
     pub mean_high: f64,
@@ -87,7 +87,11 @@ impl fmt::Display for Counts {
             write!(f, ", {} levels within {:.4}", self.levels, self.worst)?;
         }
         if self.means > 0 {
-            write!(f, ", {} means {:.4} to {:.4} above", self.means, self.mean_low, self.mean_high)?;
+            write!(
+                f,
+                ", {} means {:.4} to {:.4} steps above the average",
+                self.means, self.mean_low, self.mean_high
+            )?;
         }
         Ok(())
     }

@@ -1,5 +1,5 @@
-//! The worked examples of document 01 through the C interface, as strips and in bands. Every expected value is the paper's, or follows from its rules where a
-//! comment says how.
+//! The worked examples of document 01 and of the requests through the C interface, as strips and in bands. Every expected value is the
+//! papers', or follows from their rules where a comment says how.
 
 use compare::compare::{raw_step, raw_tally};
 use compare::pages::{header, stored, Page};
@@ -87,17 +87,42 @@ fn channels() {
     println!("examples of channels: 15");
 }
 
-/// T[M], read from the sum of one grey pixel of exponent 136, whose luminance is the channel itself. X[128], read from the average of two
-/// greys with T[128] = 1793 and T[255] = 2047 steps: 1920 is 256 · 7 + 128, and 7 + 129 is 136.
+/// T[M], read from the sum of one grey pixel of exponent 136, whose luminance is the channel itself.
+fn table_entry(mantissa: u64) -> i64 {
+    let tally = Library.tally(&Page::row(180, &[[stored(136, mantissa); 3]]).strip());
+    assert_eq!(tally.lit, 1);
+    tally.sum
+}
+
+/// The papers' entries of T, to the nearest step as request 2026-06 has it: 256 · log2(M + 1/2) is 1793.44 for 128, 1942.71 for 192 and
+/// 2047.28 for 255. X[128], read from the average of two greys with T[128] = 1793 and T[255] = 2047 steps: 1920 is 256 · 7 + 128, and
+/// 7 + 129 is 136.
 #[test]
 fn tables() {
-    for (mantissa, steps) in [(128, 1793), (192, 1942), (255, 2047)] {
-        let tally = Library.tally(&Page::row(180, &[[stored(136, mantissa); 3]]).strip());
-        assert_eq!((tally.lit, tally.sum), (1, steps));
+    for (mantissa, steps) in [(128, 1793), (192, 1943), (255, 2047)] {
+        assert_eq!(table_entry(mantissa), steps);
     }
     let tally = Library.tally(&Page::row(180, &[[stored(136, 128); 3], [stored(136, 255); 3]]).strip());
     assert_eq!((tally.average, tally.exponent, tally.mantissa), (1920, 136, 181));
     println!("examples of tables: 4");
+}
+
+/// 512 · log2(M + 1/2) rounded down: the greatest h with 2^(h+512) ≤ (2M+1)^512.
+fn half_steps(mantissa: u64) -> i64 {
+    Whole::from(2 * mantissa + 1).pow(512).bit_length() as i64 - 1 - 512
+}
+
+/// Every entry t of T is "the whole number nearest to 256 · log2(M + 1/2)": that has 2t whole half steps, or one fewer, where document 01
+/// has t - 1.
+#[test]
+fn nearest_steps() {
+    let mut more = 0;
+    for mantissa in 128..=255 {
+        let (twice, halves) = (2 * table_entry(mantissa), half_steps(mantissa));
+        assert!(halves == twice || halves == twice - 1, "T[{mantissa}]");
+        more += (halves == twice - 1) as u64;
+    }
+    println!("every entry of T: {more} of 128 rounded up");
 }
 
 #[test]
@@ -124,11 +149,9 @@ fn pages() {
     assert_eq!(extremes(&bright), [(144, 255); 2]);
     assert_eq!(levels(&bright), [39, 39, 39, 0, 0, 0]);
 
-    // Luminance (127,137), also read from its steps 256(E−136) + T[M]. T[137] is the greatest t with 2^(t+256) ≤ 275^256.
+    // Luminance (127,137), also read from its steps 256(E−136) + T[M]: 256 · log2(137.5) is 1818.44.
     let red = Elements::Half(vec![0x3C00, 0, 0]);
-    let table_entry = Whole::from(275).pow(256).bit_length() as i64 - 1 - 256;
-    let steps = 256 * (127 - 136) + table_entry;
-    assert_eq!(Library.tally(&strip(&red, 180).unwrap()).sum, steps);
+    assert_eq!(Library.tally(&strip(&red, 180).unwrap()).sum, 256 * (127 - 136) + 1818);
     assert_eq!(extremes(&strip(&red, 180).unwrap()), [(127, 137); 2]);
     assert_eq!(levels(&strip(&red, 180).unwrap()), [145, 0, 0]);
     assert_eq!(levels(&strip(&red, 1000).unwrap()), [255, 0, 0]);
