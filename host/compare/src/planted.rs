@@ -1,7 +1,9 @@
 //! Mistakes for a self-check to plant.
 
 use crate::calls::Calls;
-use crate::compare::Difference;
+use crate::compare::{told, Difference};
+use dofnihet::raw::Outcome;
+use second::Refusal;
 use std::fmt::Debug;
 
 /// The enum of these mistakes with `Nothing` beside them, and the list of them.
@@ -26,4 +28,12 @@ pub fn each_noticed<T: Calls + Debug>(nothing: T, list: &[T], compared: impl Fn(
         assert!(compared(planted).is_err(), "{planted:?} was not noticed");
     }
     list.len()
+}
+
+/// A second step's levels in the library's place: put in the output's front, and what is told of them.
+pub fn mapped(answer: &Result<Vec<u8>, Refusal>, output: &mut [u8]) -> Outcome {
+    let levels = answer.as_deref().unwrap_or_default();
+    output[..levels.len()].copy_from_slice(levels);
+    let (number, place) = told(answer);
+    Outcome { number, place }
 }

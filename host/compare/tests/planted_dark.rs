@@ -139,13 +139,6 @@ impl Planted {
     }
 }
 
-/// The levels put in the output's front; what is told of them.
-fn stored(answer: &Result<Vec<u8>, Refusal>, output: &mut [u8]) -> Outcome {
-    let levels = answer.as_deref().unwrap_or_default();
-    output[..levels.len()].copy_from_slice(levels);
-    outcome(told(answer))
-}
-
 impl Calls for Planted {
     fn tally(&self, strip: &[u32]) -> Tally {
         let answer = taking().tally(strip);
@@ -158,10 +151,10 @@ impl Calls for Planted {
     fn map(&self, strip: &[u32], output: &mut [u8]) -> Outcome {
         let answer = taking().levels(strip, output.len());
         if !self.refuses(strip, told(&answer)) {
-            return stored(&answer, output);
+            return planted::mapped(&answer, output);
         }
         match self {
-            LevelsOfDark => drop(stored(&answer, output)),
+            LevelsOfDark => drop(planted::mapped(&answer, output)),
             BlackOfDark => output.fill(0),
             _ => (),
         }
@@ -183,10 +176,10 @@ impl Calls for Planted {
     fn map_bands(&self, row: &[u32], output: &mut [u8]) -> Outcome {
         let answer = taking().levels_of_bands(row, output.len());
         if !self.refuses_bands(row, told(&answer)) {
-            return stored(&answer, output);
+            return planted::mapped(&answer, output);
         }
         if *self == LevelsOfDarkBands {
-            stored(&answer, output);
+            planted::mapped(&answer, output);
         }
         outcome((9, 0))
     }
