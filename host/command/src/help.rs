@@ -89,15 +89,15 @@ Prints what the lit pixels of a page are like, or of the page that all bands are
     range 1.0 doublings
 
     lit          the number of lit pixels
-    sum          the sum of the steps of their luminances, 256 to a doubling
-    average      the average in steps
+    sum          the sum of the steps of their luminances, 256 to a doubling, each to the nearest step
+    average      the average in steps, rounded down
     stored       the average as stored number: exponent E, mantissa M and worth
     darkest      the smallest luminance of a lit pixel, likewise
     brightest    the largest one
     range        the doublings from darkest to brightest, told by their steps
 
-A stored number is worth (M + 1/2) * 2^(E - 136), which is printed with four significant digits. A dark page is refused; see
-dofnihet --help.
+A stored number is worth (M + 1/2) * 2^(E - 136), which is printed with four significant digits. The true mean lies at most half a
+step below the average and less than one and a half above. A dark page is refused; see dofnihet --help.
 
 To choose a key: a grey as bright as the average is scaled to K/1000 and comes out at about level 255 * K / (1000 + K), which is 39
 for 180. The worths tell how far the page goes below and above the average; a doubling is twice the worth. Far below the average

@@ -55,11 +55,11 @@ mod tests {
     use super::{doublings, table_entry, text};
     use dofnihet::{Average, Extremes, Stored, Tally};
 
-    /// T[128], T[192] and T[255] of document 01.
+    /// "T[192] becomes 1943, T[128] stays 1793" (2026-06), and so does T[255].
     #[test]
     fn table_entries() {
         assert_eq!(table_entry(128), 1793);
-        assert_eq!(table_entry(192), 1942);
+        assert_eq!(table_entry(192), 1943);
         assert_eq!(table_entry(255), 2047);
     }
 
@@ -80,17 +80,17 @@ mod tests {
         assert_eq!(doublings(29965), "117.1");
     }
 
-    /// Greys (106,192) and (129,128) have 1942 - 7680 and 1793 - 1792 steps, 5739 apart: 22.4 doublings. Their worths are 192.5 / 2^30 and
-    /// 128.5 / 128. The average, -5737 / 2 rounded down, is 256 · -12 + 203, and X[203] is 221; 221.5 / 2^19 is its worth.
+    /// Greys (106,192) and (129,128) have 1943 - 7680 and 1793 - 1792 steps, 5738 apart: 22.4 doublings. Their worths are 192.5 / 2^30 and
+    /// 128.5 / 128. The average, -5736 / 2, is 256 · -12 + 204, and X[204] is 222, as 2^(7 + 204/256) is 222.4; 222.5 / 2^19 is its worth.
     #[test]
     fn lines() {
         let tally = Tally {
             lit: 2,
-            sum: -5737,
+            sum: -5736,
             average: Some(Average {
-                steps: -2869,
+                steps: -2868,
                 exponent: 117,
-                mantissa: 221,
+                mantissa: 222,
             }),
             extremes: Some(Extremes {
                 darkest: Stored {
@@ -103,7 +103,7 @@ mod tests {
                 },
             }),
         };
-        let wanted = "lit 2\nsum -5737\naverage -2869\nstored 117 221 worth 0.0004225\ndarkest 106 192 worth 1.793e-7\n\
+        let wanted = "lit 2\nsum -5736\naverage -2868\nstored 117 222 worth 0.0004244\ndarkest 106 192 worth 1.793e-7\n\
                       brightest 129 128 worth 1.004\nrange 22.4 doublings\n";
         assert_eq!(text(&tally), wanted);
     }

@@ -107,10 +107,10 @@ fn what_is_brighter_than_white_is_white() {
     assert_eq!(levels("1000", "10", &greys(&[0x3C00, 0x3800])), [255, 255, 255, 181, 181, 181]);
 }
 
-/// Red 0.5 and green 1.0 have luminance (128,205), -82 steps; a grey of 2^-8, (120,255), has -2049. The average is -1066, which is
-/// 256 · -5 + 214, and X[214] is 228: (124,228). With key 90 the first is scaled to (129,165), 165.5 / 128, the second to (121,206), and
-/// w = 1 leaves both. Display luminance is not clipped: red is 255 · 165.5/128 · 255.5/512 / (205.5/256) = 205.0, and would be 158 or 159
-/// if it were; green, 409.9, is clipped at the level. The grey's levels are 255 · 206.5 / 32768 = 1.6.
+/// Red 0.5 and green 1.0 have luminance (128,205), -81 steps, as 256 · log2(205.5) is 1966.85; a grey of 2^-8, (120,255), has -2049. The
+/// average is -1065, which is 256 · -5 + 215, and X[215] is 229: (124,229). With key 90 the first is scaled to (129,165), 165.5 / 128, the
+/// second to (121,205), and w = 1 leaves both. Display luminance is not clipped: red is 255 · 165.5/128 · 255.5/512 / (205.5/256) = 205.0,
+/// and would be 158 or 159 if it were; green, 409.9, is clipped at the level. The grey's levels are 255 · 205.5 / 32768 = 1.6.
 #[test]
 fn only_the_level_is_clipped() {
     let halves = bytes16(&[0x3800, 0x3C00, 0, 0x1C00, 0x1C00, 0x1C00]);
