@@ -167,8 +167,9 @@ dofnihet_step dofnihet_step_of(const uint32_t *strip, size_t strip_len, uint64_t
 
 /* Tallies a strip: number of lit pixels, sum of their steps, average in steps (256 to a doubling) and as stored number, and the smallest
  * and the largest, by worth, of the lit pixels' stored luminances. A stored number is worth (mantissa + 1/2) * 2^(exponent - 136).
- * A pixel's steps are 256 times the binary logarithm of its luminance's worth, to the nearest whole number; the average is their sum over
- * the lit pixels, rounded down. The true logarithm of the mean lies at most half a step below it and less than one and a half above.
+ * A pixel's steps are 256 times the binary logarithm of its luminance's worth, to the nearest whole number; the average is their sum
+ * divided by the number of lit pixels, rounded down. The true logarithm of the mean, in steps, lies at most half a step below it and less
+ * than one and a half above.
  * `present` tells whether average, darkest and brightest are there. In an accepted tally it is 1, since a page that is not dark has a lit
  * pixel; a refusal has 0 in all ten.
  * Refuses as dofnihet_check does, with 9 last. */

@@ -1,4 +1,5 @@
--- The worked examples of document 01 that are proved, and two of a rule of document 02, as one table of inputs and answers. Assumes nothing.
+-- The worked examples of document 01 that are proved, T[192] as 2026-06 has it, and two of the rule of 2026-03, as one table of inputs and
+-- answers. Assumes nothing.
 -- "Marked ▲ are the proved ones. Hexadecimal halves and singles; (E,M) decimal."
 use Prim.Native.Nat.{ℕ}
 use mathlib.Core.Path.{_≡_}

@@ -55,7 +55,7 @@ mod tests {
     use super::{doublings, table_entry, text};
     use dofnihet::{Average, Extremes, Stored, Tally};
 
-    /// "T[192] becomes 1943, T[128] stays 1793" (2026-06), and so does T[255].
+    /// "T[192] becomes 1943, T[128] stays 1793" (2026-06), and T[255] stays 2047.
     #[test]
     fn table_entries() {
         assert_eq!(table_entry(128), 1793);

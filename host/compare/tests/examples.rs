@@ -112,8 +112,8 @@ fn half_steps(mantissa: u64) -> i64 {
     Whole::from(2 * mantissa + 1).pow(512).bit_length() as i64 - 1 - 512
 }
 
-/// Every entry t of T is "the whole number nearest to 256 · log2(M + 1/2)": that has 2t whole half steps, or one fewer, where document 01
-/// has t - 1.
+/// Every entry t of T is "the whole number nearest to 256 · log2(M + 1/2)": 512 · log2(M + 1/2) rounded down is 2t, or 2t - 1 where T is
+/// rounded up.
 #[test]
 fn nearest_steps() {
     let mut more = 0;

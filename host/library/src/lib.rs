@@ -74,9 +74,8 @@ impl Header {
     }
 }
 
-/// The average of the lit pixels: in steps, 256 to a power of two, and as a stored number. Each pixel's steps are 256 times the binary
-/// logarithm of its luminance, to the nearest whole number; the true logarithm of the mean lies at most half a step below `steps` and
-/// less than one and a half above.
+/// The average of the lit pixels: in steps, 256 to a power of two, and as a stored number. Each pixel's steps are taken to the nearest and
+/// their average is rounded down, so that the true mean lies at most half a step below `steps` and less than one and a half above.
 #[derive(Clone, Copy, Debug, PartialEq, Eq)]
 pub struct Average {
     pub steps: i64,
