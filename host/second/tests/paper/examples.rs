@@ -102,9 +102,9 @@ fn all_sources_agree() {
 /// of 192.5 and of 255.5 is 1793.44, 1942.71 and 2047.28.
 #[test]
 fn steps_table() {
-    for (mantissa, plate, steps) in [(128, 1793, 1793), (192, 1942, 1943), (255, 2047, 2047)] {
+    for (mantissa, before, steps) in [(128, 1793, 1793), (192, 1942, 1943), (255, 2047, 2047)] {
         let strip = stored_strip(&built(), &grey(&[stored(136, mantissa)]), 180, None);
-        assert_eq!(rounded_down().tally(&strip).unwrap().sum, plate);
+        assert_eq!(rounded_down().tally(&strip).unwrap().sum, before);
         assert_eq!(built().tally(&strip).unwrap().sum, steps);
     }
 }
