@@ -1,10 +1,9 @@
 -- The rules of T and X: what is greatest passes its test and the next number does not. Assumes nothing.
 use mathlib.Core.Path.{_≡_}
 use Prim.Native.Nat.{ℕ, zero, suc, _+_, _-_, _*_, _^_, _≤_, _<_, zero-le}
-use native.Mathlib.Decide.{decLe}
-use native.Mathlib.Nat.{le-trans, lt-of-le-of-lt, lt-of-not-le, not-le-of-lt, not-suc-le-zero, pow-le-pow-left, pow-zero, pow-suc, pow-succ'}
+use native.Mathlib.Nat.{le-trans, lt-of-le-of-lt, not-le-of-lt, not-suc-le-zero, pow-le-pow-left, pow-zero, pow-suc, pow-succ'}
 use native.Mathlib.Numerals.{lt-of-le-of-ne}
-use native.Mathlib.Omega.{arith}
+use native.Mathlib.Omega.{arith, by-contra}
 use lib.Dec.{T, leb→le, le→leb, nleb→lt, lit≤, lit<}
 use lib.Pow.{pow-lt, pow-mono}
 use lib.Arith.{lt→nleb}
@@ -82,17 +81,9 @@ module _ (f : ℕ) where
     most = greatest-le (rootTest f) 255;
   }
 
--- what passes is at most n, where what is n + 1 or more does not
-at-most : (n m : ℕ) → (suc n ≤ m → ⊥) → m ≤ n
-at-most n m over = by (decLe m n)
-  where
-    by : Dec (m ≤ n) → m ≤ n
-    by (yes h) = h
-    by (no h) = absurd (over (lt-of-not-le h))
-
 pub roots-greatest : RootsAreGreatest
 roots-greatest f small =
     record {
       passes = root-below f;
-      greatest = λ m p. at-most (rootOf f) m (λ l. not-le-of-lt (root-above f (omega arith)) (le-trans (pow-le-pow-left l 256) p));
+      greatest = λ m p. by-contra m (rootOf f) (λ l. not-le-of-lt (root-above f (omega arith)) (le-trans (pow-le-pow-left l 256) p));
     }
