@@ -10,7 +10,7 @@ use word::header::Header;
 
 // What a page is converted with, as C passes it: `white` counts where `white_present` is not 0.
 #[repr(C)]
-#[derive(Drop)]
+#[derive(Clone, Copy)]
 pub struct Page {
     pub width: u64,
     pub height: u64,
@@ -21,7 +21,7 @@ pub struct Page {
 
 // A page's header; a page without a white point has 0 in the last two fields, a refusal in all but number and place.
 #[repr(C)]
-#[derive(Drop)]
+#[derive(Clone, Copy)]
 pub struct HeaderAnswer {
     pub number: u64,
     pub place: u64,
@@ -33,6 +33,7 @@ pub struct HeaderAnswer {
 }
 
 // The white point that two numbers of C stand for.
+#[tactic(auto, unfolding(crate::specs::Answers::white_given))]
 fn white_given(present: u64, tenths: u64) -> White
     ensures { result ≡ white_given present tenths }
 {
@@ -44,6 +45,7 @@ fn white_given(present: u64, tenths: u64) -> White
 }
 
 // The header that a page's numbers stand for.
+#[tactic(auto, unfolding(crate::specs::Answers::header_of))]
 pub fn page_header(page: Page) -> Header
     ensures { result ≡ header_of page }
 {

@@ -7,7 +7,7 @@ use row::RowOrRefusal;
 
 // A row: `length` words of the strip, from the index `start` on; a refusal has 0 in both.
 #[repr(C)]
-#[derive(Drop)]
+#[derive(Clone, Copy)]
 pub struct RowAnswer {
     pub number: u64,
     pub place: u64,

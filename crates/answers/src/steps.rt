@@ -8,7 +8,7 @@ use refusal::outcome_of;
 
 // A step: `over` is 1 where the page is over, else 0 with the pixel's channels as 16-bit numbers; a refusal has 0 in all four.
 #[repr(C)]
-#[derive(Drop)]
+#[derive(Clone, Copy)]
 pub struct StepAnswer {
     pub number: u64,
     pub place: u64,

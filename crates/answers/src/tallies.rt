@@ -11,7 +11,7 @@ use refusal::outcome_of;
 
 // A tally with its average and its extremes; a refusal has 0 in all of them, and so has what a tally is without.
 #[repr(C)]
-#[derive(Drop)]
+#[derive(Clone, Copy)]
 pub struct TallyAnswer {
     pub number: u64,
     pub place: u64,

@@ -8,7 +8,7 @@ use crate::tables::root;
 use number::ratio::Stored;
 
 // The average in steps with the stored average, or none where no pixel is lit.
-#[derive(Drop)]
+#[derive(Clone, Copy)]
 pub enum Average {
     Absent,
     Present(i64, Stored),
@@ -23,6 +23,7 @@ fn exponent(q: i64, bias: i64) -> u8
 }
 
 // The stored average of A = 256q + f steps.
+#[tactic(auto, unfolding(crate::specs::Averages::stored_average))]
 fn stored_average(steps: i64) -> Stored
     requires { IsAverage steps }
     ensures { result ≡ stored_average steps }
@@ -50,6 +51,7 @@ pub fn lit_average(count: u64, sum: i64) -> Stored
 }
 
 // The average of `count` luminances whose steps add up to `sum`.
+#[tactic(auto, unfolding(crate::specs::Averages::average_of))]
 pub fn average_of(count: u64, sum: i64) -> Average
     requires { HasAverage count sum }
     ensures answer { result ≡ average_of count sum }

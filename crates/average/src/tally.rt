@@ -8,14 +8,14 @@ ghost use Rattle.average.specs.loops.Sums.{raised_steps};
 use number::ratio::Stored;
 
 // The darkest and the brightest luminance, in this order; none where no pixel is lit.
-#[derive(Drop)]
+#[derive(Clone, Copy)]
 pub enum Extremes {
     Absent,
     Both(Stored, Stored),
 }
 
 // A tally: how many pixels are lit, the sum of their steps, and their extremes.
-#[derive(Drop)]
+#[derive(Clone, Copy)]
 pub struct Tally {
     pub count: u64,
     pub sum: i64,

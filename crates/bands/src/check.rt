@@ -15,6 +15,7 @@ use white::same_white;
 use word::header::{Header, size_fits};
 
 // Whether a band is like the first one and the joined size within the limits; `above` is the number of rows of the bands above.
+#[tactic(auto, unfolding(crate::specs::Checks::joins))]
 fn joins_bands(first: Header, above: u64, band: Header) -> bool
     requires { (above ≤ 8192) × (band.height < 16384) }
     ensures { result ≡ joins first above band }
@@ -34,6 +35,7 @@ fn joins_bands(first: Header, above: u64, band: Header) -> bool
 }
 
 // One band: its own checks, then those of joining.
+#[tactic(auto, unfolding(crate::specs::Checks::check_band, refusal::specs::Verdicts::and_then, refusal::specs::Verdicts::require))]
 fn check_band(row: &[u32], start: usize, first: Header, above: u64) -> Verdict
     requires { (start ≤ length row.now) × (above ≤ 8192) }
     ensures { result ≡ check_band first above (standing_at row.now start) }

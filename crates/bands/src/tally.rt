@@ -19,6 +19,7 @@ use series::strip_at;
 use strip::read::body;
 
 // The tally of no pixel.
+#[tactic(auto, unfolding(average::specs::Tallies::sum_of, average::specs::Tallies::extremes_of))]
 pub(crate) fn no_tally() -> Tally
     ensures { result ≡ tally_of [] }
 {

@@ -60,7 +60,7 @@ fn factor_at(
 }
 
 // The levels of a pixel before the limit of 255.
-#[derive(Drop)]
+#[derive(Clone, Copy)]
 pub struct WideLevels {
     pub red: u16,
     pub green: u16,

@@ -20,7 +20,7 @@ use number::order::lesser;
 use word::header::low_half;
 
 // What the tally of some pixels is made of: how many are unlit, and the sum of the raised steps at the indices of all of them.
-#[derive(Drop)]
+#[derive(Clone, Copy)]
 pub struct Sums {
     pub unlit: u64,
     pub raised: u64,
@@ -136,6 +136,7 @@ fn lowest_of(lanes: &[u16; 16]) -> u16
 }
 
 // The extremes by the lowest of both.
+#[tactic(auto, unfolding(crate::specs::loops::Tallying::extremes_at))]
 fn extremes_at(dark: u16, bright: u16) -> Extremes
     ensures { result ≡ extremes_at dark bright }
 {
@@ -146,6 +147,7 @@ fn extremes_at(dark: u16, bright: u16) -> Extremes
 }
 
 // The tally of pixels by their sums and what is lowest.
+#[tactic(auto, unfolding(crate::specs::loops::Tallying::tally_from))]
 fn tally_from(
     logs: &[u16; 128],
     pixels: usize,
@@ -167,6 +169,7 @@ fn tally_from(
 }
 
 // The tally of channel words, with the indices in an output that has room.
+#[tactic(auto, unfolding(crate::specs::loops::Tallying::lowest))]
 fn index_pixels(words: &[u32], output: &mut [u8]) -> Tally
     requires { IsBody words.now }
     ensures tally { result ≡ tally_of (luminances_of (word_pixels words.now)) }

@@ -1,4 +1,5 @@
 // Source pictures into strips: RGBE, half and single floats, and stored channels.
+#![tactic(auto)]
 pub mod half;
 mod half_blocks;
 pub mod rgbe;

@@ -16,6 +16,7 @@ use word::body::{body_start, verdict_at};
 use word::header::Header;
 
 // The first channel of a pixel that is too bright; its bytes begin at the index i.
+#[tactic(auto, unfolding(refusal::specs::Verdicts::and_then))]
 fn check_pixel(i: usize, red: u8, green: u8, blue: u8, exponent: u8) -> Verdict
     requires { i + 2 < 2 ^ 64 }
     ensures { result ≡ first_refusal (rgbe_pixel i red green blue exponent) }

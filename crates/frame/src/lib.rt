@@ -1,4 +1,5 @@
 // What every conversion does, whatever it reads: the checks of the page, where the channel words stand, and the words around them.
+#![tactic(auto)]
 ghost use Rattle.std.specs.Prelude.{◌≡◌, true, ◌≤◌, length};
 ghost use Rattle.std.proofs.lemmas.List.Edits.{sets};
 ghost use Rattle.white.specs.Whites.{white_fits};
@@ -24,6 +25,7 @@ pub fn body_end(header: Header) -> usize
 }
 
 // The checks of a source of so many elements, and an output of so many words.
+#[tactic(auto, unfolding(crate::specs::Frames::check_frame, refusal::specs::Verdicts::require))]
 pub fn check_frame(header: Header, per: u8, count: usize, room: usize) -> Verdict
     ensures verdict { result ≡ check_frame header per count room }
     ensures outcome { report_of result ≡ report_of (check_frame header per count room) }

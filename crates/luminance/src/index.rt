@@ -59,7 +59,7 @@ fn weighted_sum(red: u64, blue: u64, r: u64, g: u64, b: u64) -> u64
 }
 
 // The first thirteen binary digits of a number, and how many digits follow them.
-#[derive(Drop)]
+#[derive(Clone, Copy)]
 struct CutSum {
     digits: u32,
     shift: u64,

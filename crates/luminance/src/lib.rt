@@ -1,4 +1,5 @@
 // Step 1: the luminance of a pixel.
+#![tactic(auto)]
 pub mod index;
 pub mod near;
 pub mod pixel;

@@ -8,14 +8,14 @@ use number::channel::{Channel, Pixel};
 use number::ratio::Stored;
 
 // The luminance of a pixel: stored, or none where all channels are black.
-#[derive(Drop)]
+#[derive(Clone, Copy)]
 pub enum Luminance {
     Unlit,
     Lit(Stored),
 }
 
 // A channel's part of the sum: value * 2^exponent in units of 2^-137.
-#[derive(Drop)]
+#[derive(Clone, Copy)]
 struct Term {
     value: u64,
     exponent: u64,
@@ -65,6 +65,7 @@ fn add_term(sum: u64, gap: u64, value: u64) -> u64
 }
 
 // A hundredth of the sum of three terms, from the largest exponent to the smallest.
+#[tactic(auto, unfolding(crate::proofs::Sticky::jam_of))]
 fn store_sorted(a: Term, b: Term, c: Term) -> Stored
     requires le_value { (1 ≤ a.value) × (a.value ≤ 34237) × (b.value ≤ 34237) × (c.value ≤ 34237) }
     requires le_exponent { (24 ≤ a.exponent) × (a.exponent ≤ 184) × (b.exponent ≤ a.exponent) × (c.exponent ≤ b.exponent) }

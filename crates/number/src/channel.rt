@@ -5,13 +5,13 @@ ghost use Rattle.number.specs.Channels.{code_of, decoded_told, channel_of_code, 
 use refusal::Refusal;
 
 // A channel: black, or lit with an exponent and a mantissa.
-#[derive(Drop)]
+#[derive(Clone, Copy)]
 pub enum Channel {
     Black,
     Lit(u8, u8),
 }
 
-#[derive(Drop)]
+#[derive(Clone, Copy)]
 pub struct Pixel {
     pub red: Channel,
     pub green: Channel,
@@ -19,7 +19,7 @@ pub struct Pixel {
 }
 
 // What a number stands for: a channel, or its refusal.
-#[derive(Drop)]
+#[derive(Clone, Copy)]
 pub enum Decoded {
     Holds(Channel),
     Refuses(Refusal),
@@ -33,6 +33,7 @@ pub const GREATEST_EXPONENT: u16 = 184;
 const LEAST_MANTISSA: u16 = 128;
 
 // The channel of a 16-bit number 256E + M, 0 for black.
+#[tactic(auto, unfolding(crate::specs::Channels::channel_of_code))]
 pub fn code_to_channel(code: u16) -> Decoded
     ensures answer { result ≡ channel_of_code code }
     ensures told { decoded_told result ≡ decoded_told (channel_of_code code) }

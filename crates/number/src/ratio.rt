@@ -4,21 +4,21 @@ ghost use Rattle.number.specs.Fractions.{◌over◌};
 ghost use Rattle.number.specs.Storing.{unit, Normalised, Scales, ratio_of, ratio_told};
 
 // A stored number: exponent E and mantissa M, worth (M + 1/2) * 2^(E - 136).
-#[derive(Drop)]
+#[derive(Clone, Copy)]
 pub struct Stored {
     pub exponent: u8,
     pub mantissa: u8,
 }
 
 // The stored number of a ratio, or that its exponent does not fit.
-#[derive(Drop)]
+#[derive(Clone, Copy)]
 pub enum StoredRatio {
     InRange(Stored),
     OutOfRange,
 }
 
 // The powers of two that bring a ratio above 1/2 and at most to 1, times 2^up and divided by 2^down, with its mantissa.
-#[derive(Drop)]
+#[derive(Clone, Copy)]
 struct Scaled {
     up: u8,
     down: u8,
@@ -26,7 +26,7 @@ struct Scaled {
 }
 
 // A number shifted left until its top bit is bit 63.
-#[derive(Drop)]
+#[derive(Clone, Copy)]
 struct Aligned {
     value: u64,
     shift: u8,
@@ -44,7 +44,7 @@ fn align(v: u64) -> Aligned
 }
 
 // Binary digits of a quotient, and the rest that the next digit is taken from.
-#[derive(Drop)]
+#[derive(Clone, Copy)]
 struct Quotient {
     digits: u64,
     rest: u64,

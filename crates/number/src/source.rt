@@ -87,6 +87,7 @@ pub fn single_to_channel(bits: u32) -> Decoded
 }
 
 // A byte of an RGBE pixel beside the pixel's exponent byte.
+#[tactic(auto, unfolding(crate::specs::Sources::rgbe_value, crate::specs::Sources::channel_of_value, crate::specs::Storing::unit))]
 pub fn rgbe_to_channel(byte: u8, exponent: u8) -> Decoded
     ensures answer { result ≡ channel_of_value (rgbe_value byte exponent) }
     ensures told { decoded_told result ≡ decoded_told (channel_of_value (rgbe_value byte exponent)) }

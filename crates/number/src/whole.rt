@@ -8,7 +8,7 @@ use crate::channel::{Channel, Decoded, GREATEST_EXPONENT, LEAST_EXPONENT};
 use refusal::Refusal;
 
 // The shift that brings a whole number above 2^62 and at most to 2^63, with the mantissa that it then has.
-#[derive(Drop)]
+#[derive(Clone, Copy)]
 struct Shifted {
     shift: u8,
     mantissa: u8,

@@ -1,3 +1,4 @@
 // A page tallied and mapped.
+#![tactic(auto)]
 pub mod map;
 pub mod tally;

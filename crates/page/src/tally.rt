@@ -14,7 +14,7 @@ use strip::read::body;
 
 // The tally of an accepted strip with its average, or its refusal with the index where it was found, of which `outcome_of` tells
 // number and place.
-#[derive(Drop)]
+#[derive(Clone, Copy)]
 pub enum TallyOrRefusal {
     Holds(Tally, Average),
     Refuses(Refusal, usize),

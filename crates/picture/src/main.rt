@@ -1,5 +1,6 @@
 // The picture program: a strip on standard input, its picture or its refusal on standard output. It only reads and writes; what it writes
 // is `ppm`'s.
+#![tactic(auto)]
 use ppm::answer::answer_to;
 
 // The end of the input is a read of no bytes. A read that fails is told, and so is a write that fails.

@@ -14,7 +14,7 @@ use refusal::{Verdict, report};
 use word::header::{height_in, pixel_count, width_in};
 
 // An answer in two lent outputs, a text and the samples behind it: how many bytes of each are its.
-#[derive(Drop)]
+#[derive(Clone, Copy)]
 pub struct Answer {
     pub text: usize,
     pub samples: usize,

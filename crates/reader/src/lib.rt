@@ -1,5 +1,6 @@
 // The page reader: it keeps a lent strip and walks it pixel by pixel. The functions over the struct are thin; the work is done on a plain
 // slice and a position, in `steps`.
+#![tactic(auto)]
 mod steps;
 
 ghost use Rattle.std.specs.Prelude.{◌≡◌};
@@ -12,7 +13,7 @@ use refusal::Refusal;
 
 // What a step answers: the next pixel, that the page is over, or the strip's refusal with the index where it was found, of which
 // `outcome_of` tells number and place.
-#[derive(Drop)]
+#[derive(Clone, Copy)]
 pub enum Step {
     Pixel(Pixel),
     PageOver,
@@ -20,7 +21,7 @@ pub enum Step {
 }
 
 // A strip, and the index of the next pixel's red word; 0, where no pixel begins, over a refused strip. Only the calls below make one.
-#[derive(Drop)]
+#[derive(Clone, Copy)]
 pub struct PageReader<'a> {
     strip: &'a [u32],
     position: usize,

@@ -1,10 +1,11 @@
 // The refusal list: why a call turns its input away, with the number and the place that it reports.
+#![tactic(auto)]
 ghost use Rattle.std.specs.Prelude.{◌≡◌};
 ghost use Rattle.refusal.specs.Refusals.{outcome_of};
 ghost use Rattle.refusal.specs.Verdicts.{report_of};
 
 // One case for each line of the list; the list's own words stand in specs/Refusals.antt.
-#[derive(Drop)]
+#[derive(Clone, Copy)]
 pub enum Refusal {
     BadSize,
     BadKey,
@@ -22,14 +23,14 @@ pub enum Refusal {
 
 // What a call reports; C takes it as it is.
 #[repr(C)]
-#[derive(Drop)]
+#[derive(Clone, Copy)]
 pub struct Outcome {
     pub number: u64,
     pub place: usize,
 }
 
 // What a check answers: accepted, or refused, with the index where it was found. The index of a refusal that has place 0 says nothing.
-#[derive(Drop)]
+#[derive(Clone, Copy)]
 pub enum Verdict {
     Accepted,
     Refused(Refusal, usize),

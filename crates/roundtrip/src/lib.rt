@@ -1,1 +1,2 @@
 // No code: the claims of specs/ and their proofs.
+#![tactic(auto)]

@@ -1,4 +1,5 @@
 // One row of a strip: where it stands, and the row handed back as that part of the strip.
+#![tactic(auto)]
 ghost use Rattle.std.specs.Prelude.{◌≡◌};
 ghost use Rattle.row.specs.Rows.{find_row, row_of, words_of, pointer_to, row_told};
 
@@ -8,14 +9,14 @@ use strip::read::body_start;
 use word::header::width_in;
 
 // A part of a strip: `count` words from the index `start` on.
-#[derive(Drop)]
+#[derive(Clone, Copy)]
 pub struct Part {
     pub start: usize,
     pub count: usize,
 }
 
 // Where a row stands in an accepted strip, or the refusal with the index where it was found.
-#[derive(Drop)]
+#[derive(Clone, Copy)]
 pub enum RowOrRefusal {
     Holds(Part),
     Refuses(Refusal, usize),

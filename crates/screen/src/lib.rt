@@ -1,4 +1,5 @@
 // The curve that levels are printed through, as a table that is proved by one test over all its entries.
+#![tactic(auto)]
 ghost use Rattle.std.specs.Prelude.{◌≡◌, map};
 ghost use Rattle.table.specs.Tables.{IsTable};
 ghost use Rattle.screen.specs.Samples.{sample_of};
@@ -21,6 +22,7 @@ const SAMPLES: [u8; 256] = [
 ];
 
 // The table by value: a loop reads it once and looks up in it.
+#[tactic(auto, unfolding(crate::specs::Samples::sample_of, crate::specs::Samples::curve_test, table::specs::Tables::greatest))]
 pub fn sample_table() -> [u8; 256]
     ensures { IsTable 256 sample_of result }
 {

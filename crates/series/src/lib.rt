@@ -1,4 +1,5 @@
 // Strips one behind another in one lent row of words: where each stands, and its checks there.
+#![tactic(auto)]
 ghost use Rattle.std.specs.Prelude.{◌≡◌, ◌≤◌, length};
 ghost use Rattle.series.specs.Series.{front_strip, moved_by, check_standing, strip_at, standing_at};
 ghost use Rattle.series.specs.loops.Walks.{PlacesFit};
@@ -40,6 +41,7 @@ fn moved_by(start: usize, verdict: Verdict) -> Verdict
 }
 
 // The strip that begins at an index of a row is checked where it stands.
+#[tactic(auto, unfolding(crate::specs::Series::check_standing))]
 pub fn check_at(row: &[u32], start: usize) -> Verdict
     requires { start ≤ length row.now }
     ensures { result ≡ check_standing (standing_at row.now start) }

@@ -11,6 +11,7 @@ use refusal::{Refusal, Verdict};
 use word::header::{check_key_word, check_size_word, check_white_word, end_word, height_in};
 
 // The header words and the length.
+#[tactic(auto, unfolding(crate::specs::Checks::check_head, refusal::specs::Verdicts::require, refusal::specs::Verdicts::and_then))]
 fn check_head(strip: &[u32]) -> Verdict
     ensures { result ≡ check_head strip.now }
 {
@@ -37,6 +38,7 @@ fn check_head(strip: &[u32]) -> Verdict
 }
 
 // The channel words and the end word.
+#[tactic(auto, unfolding(crate::specs::Checks::check_body, refusal::specs::Verdicts::and_then, refusal::specs::Verdicts::require))]
 fn check_body(strip: &[u32]) -> Verdict
     ensures { result ≡ check_body strip.now }
 {
@@ -53,6 +55,7 @@ fn check_body(strip: &[u32]) -> Verdict
 }
 
 // The checks of a strip, with what a call adds between length and words.
+#[tactic(auto, unfolding(crate::specs::Checks::check_with, refusal::specs::Verdicts::and_then))]
 pub fn check_with(strip: &[u32], added: Verdict) -> Verdict
     ensures verdict { result ≡ check_with added strip.now }
     ensures outcome { report_of result ≡ report_of (check_with added strip.now) }
@@ -68,6 +71,7 @@ pub fn check_with(strip: &[u32], added: Verdict) -> Verdict
 }
 
 // A whole strip.
+#[tactic(auto, unfolding(crate::specs::Checks::check_strip))]
 pub fn check(strip: &[u32]) -> Verdict
     ensures verdict { result ≡ check_strip strip.now }
     ensures outcome { report_of result ≡ report_of (check_strip strip.now) }
@@ -87,6 +91,7 @@ fn check_room(strip: &[u32], room: usize) -> Verdict
 }
 
 // A strip whose channels go into an output of so many elements.
+#[tactic(auto, unfolding(crate::specs::Checks::check_output))]
 pub fn check_output(strip: &[u32], room: usize) -> Verdict
     ensures verdict { result ≡ check_output strip.now room }
     ensures outcome { report_of result ≡ report_of (check_output strip.now room) }
@@ -95,6 +100,7 @@ pub fn check_output(strip: &[u32], room: usize) -> Verdict
 }
 
 // Whether a strip declares row y.
+#[tactic(auto, unfolding(refusal::specs::Verdicts::require))]
 fn check_number(strip: &[u32], y: usize) -> Verdict
     ensures { result ≡ require (ltb y (header_fields strip.now).height) Refusal.NoSuchRow 0 Verdict.Accepted }
 {
@@ -106,6 +112,7 @@ fn check_number(strip: &[u32], y: usize) -> Verdict
 }
 
 // A strip of which row y is asked for.
+#[tactic(auto, unfolding(crate::specs::Checks::check_row))]
 pub fn check_row(strip: &[u32], y: usize) -> Verdict
     ensures verdict { result ≡ check_row strip.now y }
     ensures outcome { report_of result ≡ report_of (check_row strip.now y) }

@@ -75,7 +75,7 @@ pub fn header_fields(row: &[u32]) -> Header
 }
 
 // The header of an accepted strip, or its refusal with the index where it was found.
-#[derive(Drop)]
+#[derive(Clone, Copy)]
 pub enum HeaderOrRefusal {
     Holds(Header),
     Refuses(Refusal, usize),

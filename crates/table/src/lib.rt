@@ -1,1 +1,2 @@
 // No code: the definitions of specs/ and their laws.
+#![tactic(auto)]

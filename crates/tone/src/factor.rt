@@ -19,6 +19,7 @@ fn next_power(i: usize, power: u64) -> u64
 }
 
 // The powers of two by offset plus channel exponent.
+#[tactic(auto, unfolding(crate::specs::loops::Factors::power_at))]
 pub fn power_table() -> [u64; 640]
     ensures { IsPowerTable result }
 {
@@ -66,6 +67,7 @@ fn offset(display: Stored, luminance: Stored) -> u64
 const RECIPROCAL_UNIT: u64 = 268435456;
 
 // The factor of a luminance and its display luminance: what step 6 needs of both.
+#[tactic(auto, unfolding(crate::specs::loops::Factors::factor_by))]
 pub fn factor(reciprocals: &[u64; 128], display: Stored, luminance: Stored) -> u64
     ensures { result ≡ factor_by reciprocals.now display luminance }
 {
@@ -76,6 +78,7 @@ pub fn factor(reciprocals: &[u64; 128], display: Stored, luminance: Stored) -> u
 
 // Step 6 up to its limit: the level of a channel, given by its code, in a pixel with this factor, before 255 is taken for more. A factor of
 // scale 0 gives level 0.
+#[tactic(auto, unfolding(crate::specs::loops::Factors::wide_level))]
 pub fn wide_level(powers: &[u64; 640], factor: u64, code: u16) -> u16
     requires { IsPowerTable powers.now × (factor < 374 * 2 ^ 40) }
     ensures { result ≡ wide_level factor code }

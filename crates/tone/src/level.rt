@@ -55,6 +55,7 @@ fn divided(value: u64, exponent: u64) -> Stored
 // (i) 136 - E > 22, that is E below 114; (ii) 136 - E < -16, E above 152; (iii) between. What 004 leaves out of the denominator in (i) and
 // (ii) makes no difference to what is stored, L itself and (128,255). In (iii) it approximates, in fixed point of 32 bits; here the quotient
 // is exact.
+#[tactic(auto, unfolding(white::specs::Whites::white_fits))]
 fn plain_display(scaled: Stored) -> Stored
     requires { IsScaled scaled }
     ensures { result ≡ display_of reinhard scaled }
@@ -165,6 +166,7 @@ fn display_luminance(white: White, scaled: Stored) -> Stored
 const TABLE_EXPONENT: u8 = 128;
 
 // 256 times the exponent plus the mantissa of the scaled luminance of (128, M).
+#[tactic(auto, unfolding(crate::specs::loops::ScaledTables::scaled_code))]
 fn scaled_code(tone: Tone, mantissa: u8) -> u16
     requires { IsTone tone × IsMantissa mantissa }
     ensures { result ≡ scaled_code tone mantissa }

@@ -31,6 +31,7 @@ pub fn channel_word(k: usize, code: u16) -> u32
 }
 
 // The channel that a word stands for as the word of channel k.
+#[tactic(auto, unfolding(crate::specs::Fields::decode_word))]
 pub fn decode_word(k: usize, word: u32) -> Decoded
     ensures answer { result ≡ decode_word k word }
     ensures told { decoded_told result ≡ decoded_told (decode_word k word) }

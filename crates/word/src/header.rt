@@ -8,7 +8,7 @@ use refusal::{Refusal, Verdict};
 use white::{White, tenths_fit};
 
 // Width, height, key and white point of a page: any numbers, and within the limits in an accepted strip.
-#[derive(Drop)]
+#[derive(Clone, Copy)]
 pub struct Header {
     pub width: u64,
     pub height: u64,
@@ -25,6 +25,7 @@ const GREATEST_KEY: u64 = 1000;
 const WHITE_KIND: u32 = 3;
 
 // Whether a page may have this width and height.
+#[tactic(auto, unfolding(crate::specs::Words::size_fits))]
 pub fn size_fits(width: u64, height: u64) -> bool
     ensures { result ≡ size_fits width height }
 {
@@ -44,6 +45,7 @@ pub fn size_fits(width: u64, height: u64) -> bool
 }
 
 // Whether a page may have this key.
+#[tactic(auto, unfolding(crate::specs::Words::key_fits))]
 pub fn key_fits(key: u64) -> bool
     ensures { result ≡ key_fits key }
 {
@@ -74,6 +76,7 @@ pub fn low_half(word: u32) -> u16
 }
 
 // The white point that the third word of a strip stands for.
+#[tactic(auto, unfolding(crate::specs::Fields::white_in))]
 pub fn white_in(word: u32) -> White
     ensures { result ≡ white_in word }
 {
@@ -113,6 +116,7 @@ pub fn end_word(pixels: u32) -> u64
 }
 
 // The verdict on the first word of a strip.
+#[tactic(auto, unfolding(crate::specs::Fields::check_size_word, refusal::specs::Verdicts::require))]
 pub fn check_size_word(word: u32) -> Verdict
     ensures verdict { result ≡ check_size_word word }
     ensures outcome { report_of result ≡ report_of (check_size_word word) }
@@ -130,6 +134,7 @@ pub fn check_size_word(word: u32) -> Verdict
 }
 
 // The verdict on the second word of a strip.
+#[tactic(auto, unfolding(crate::specs::Fields::check_key_word, refusal::specs::Verdicts::require))]
 pub fn check_key_word(word: u32) -> Verdict
     ensures verdict { result ≡ check_key_word word }
     ensures outcome { report_of result ≡ report_of (check_key_word word) }
@@ -146,6 +151,7 @@ pub fn check_key_word(word: u32) -> Verdict
 }
 
 // The verdict on the third word of a strip, if it is a white word.
+#[tactic(auto, unfolding(crate::specs::Fields::check_white_word, refusal::specs::Verdicts::require))]
 pub fn check_white_word(word: u32) -> Verdict
     ensures verdict { result ≡ check_white_word word }
     ensures outcome { report_of result ≡ report_of (check_white_word word) }

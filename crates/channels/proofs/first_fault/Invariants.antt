@@ -1,0 +1,12 @@
+-- What the loop keeps to.
+use Rattle.std.proofs.Common.{◌≡◌, ◌-◌, length, refl, rules}
+use Rattle.word.specs.Placing.{placed, first_refusal}
+use Rattle.word.specs.Fields.{decode_word}
+use Rattle.word.proofs.Walks.{checking, checking_all, checking_next, checking_refused, checking_done}
+use Rattle.channels.proofs.first_fault.Given as goal
+
+abbrev pub invariant-loop-k : goal.invariant-loop-k
+invariant-loop-k l = checking decode_word l.start l.words l.k ≡ first_refusal (placed decode_word l.start 0 l.words)
+
+abbrev pub decreases-loop-k : goal.decreases-loop-k
+decreases-loop-k l = length l.words - l.k

@@ -1,0 +1,12 @@
+-- What the loop keeps to.
+use Rattle.std.proofs.Common.{◌≡◌, ◌-◌, length, sym, zero-add, rules}
+use Rattle.word.specs.Placing.{first_refusal}
+use Rattle.word.proofs.Walks.{checking, checking_all, checking_next, checking_refused, checking_done}
+use Rattle.convert.specs.Formats.{half, half_element, decoded_source}
+use Rattle.convert.proofs.half.check_half.Given as goal
+
+abbrev pub invariant-loop-k : goal.invariant-loop-k
+invariant-loop-k l = checking half_element 0 l.source l.k ≡ first_refusal (decoded_source half l.source)
+
+abbrev pub decreases-loop-k : goal.decreases-loop-k
+decreases-loop-k l = length l.source - l.k

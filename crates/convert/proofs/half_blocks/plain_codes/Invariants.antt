@@ -1,0 +1,11 @@
+-- What the loop keeps to.
+use Rattle.std.proofs.Common.{◌≡◌, ◌+◌, ◌-◌, get_or, ◌∙◌, arith, rules}
+use Rattle.number.specs.loops.Halves.{half_code}
+use Rattle.number.proofs.Laws.{Filled, filled_none, filled_next, plain_half}
+use Rattle.convert.proofs.half_blocks.plain_codes.Given as goal
+
+abbrev pub invariant-loop-j : goal.invariant-loop-j
+invariant-loop-j l = Filled (λ k w. w ≡ half_code (get_or l.source (l.start + k) 0)) 48 l.j l.codes
+
+abbrev pub decreases-loop-j : goal.decreases-loop-j
+decreases-loop-j l = 48 - l.j

@@ -1,0 +1,16 @@
+-- What the loop keeps to.
+use Prim.Native.Nat.{◌-◌}
+use mathlib.Core.Path.{◌≡◌, refl, sym, ◌∙◌}
+use mathlib.Core.List.{map}
+use lib.ListN.{length, length-map, get_or-map}
+use Rattle.word.specs.Fields.{low16}
+use Rattle.refusal.specs.Output.{onto}
+use Rattle.refusal.proofs.Outputs.{sets_front}
+use Rattle.word.proofs.Walks.{storing, storing_all, storing_next, storing_done}
+use Rattle.strip.proofs.read.store_codes.Given as goal
+
+abbrev pub invariant-loop-i : goal.invariant-loop-i
+invariant-loop-i l = (length l.output ≡ length l.initial.output) × (storing (map low16 l.words) l.i l.i l.output ≡ onto (map low16 l.words) l.initial.output)
+
+abbrev pub decreases-loop-i : goal.decreases-loop-i
+decreases-loop-i l = length l.words - l.i
