@@ -6,13 +6,13 @@ test:
 
 # The sample page as a picture: the program is proved and built, then run.
 run:
-	rt check picture
+	tools/build picture
 	target/bin/picture < samples/relief.strip > target/relief.ppm
 	@echo "The sample page is mapped: $(CURDIR)/target/relief.ppm"
 
 # The library for C and Rust programs, proved and built: target/staticlib/libdofnihet.a.
 staticlib:
-	rt staticlib dofnihet
+	tools/build library
 
 # The command line: host/target/release/dofnihet.
 command: staticlib
@@ -24,5 +24,5 @@ bench: staticlib
 
 # The comparisons with the second tone step on new seeds, for ten minutes.
 soak: staticlib
-	rt check picture
+	tools/build picture
 	cargo run --release --manifest-path host/Cargo.toml -p compare --bin soak -- 10

@@ -1,4 +1,4 @@
-// Links the static library that `rt staticlib dofnihet` writes at the repository's top.
+// Links the static library that `tools/build library` leaves at the repository's top.
 fn main() {
     let folder = concat!(env!("CARGO_MANIFEST_DIR"), "/../../target/staticlib");
     println!("cargo:rustc-link-search=native={folder}");

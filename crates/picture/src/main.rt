@@ -2,14 +2,17 @@
 // is `ppm`'s.
 #![tactic(auto)]
 use ppm::answer::answer_to;
+use std::io::Read;
 
 // The end of the input is a read of no bytes. A read that fails is told, and so is a write that fails.
-fn main() {
+fn main(rt: HostRuntime) {
     let mut input = [0u8; 65537];
     let size = io::read_full(0, &mut input);
     if size < 65537 {
         let mut more = [0u8; 1];
-        if libc::read(0, &mut more) != 0 {
+        let mut stdin = rt.stdin();
+        let is_ended = matches!(stdin.read(&mut more), Ok(0));
+        if !is_ended {
             io::write_all(2, b"picture: the input was not read to its end\n");
             return;
         }

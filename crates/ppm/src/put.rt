@@ -9,7 +9,9 @@ pub fn put(text: &[u8], at: usize, output: &mut [u8]) -> usize
     ensures content { output.new ≡ sets output.old at text.now }
     ensures end { result ≡ at + length text.now }
 {
-    at + bytes::copy(text, &mut output[at..])
+    let end = at + text.len();
+    output[at..end].copy_from_slice(text);
+    end
 }
 
 // A number in decimal digits.
