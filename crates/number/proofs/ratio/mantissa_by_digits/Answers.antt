@@ -1,5 +1,5 @@
 -- `number::ratio::mantissa_by_digits` meets its contract: with i digits taken, digits * den + rest is 2^i times the number.
-use Rattle.std.proofs.Common.{◌≡◌, ℕ, ◌+◌, ◌-◌, ◌*◌, ◌^◌, ◌<◌, ◌≤◌, subst, arith, pow_mono, pow-add, rules}
+use Rattle.std.proofs.Common.{◌≡◌, ℕ, ◌+◌, ◌*◌, ◌^◌, ◌<◌, ◌≤◌, subst, arith, pow-add}
 use Rattle.number.specs.Storing.{Normalised}
 use Rattle.number.proofs.Normalised.{cell}
 use Rattle.number.proofs.ratio.mantissa_by_digits.Goals as goal

@@ -1,7 +1,5 @@
 -- What the loop keeps to.
-use Rattle.std.proofs.Common.{◌≡◌, ℕ, ◌+◌, ◌-◌, ◌*◌, ◌^◌, ◌<◌, ◌≤◌, subst, arith, pow_mono, pow-add, rules}
-use Rattle.number.specs.Storing.{Normalised}
-use Rattle.number.proofs.Normalised.{cell, mantissa}
+use Rattle.std.proofs.Common.{◌≡◌, ◌+◌, ◌-◌, ◌*◌, ◌^◌, ◌<◌, ◌≤◌}
 use Rattle.number.proofs.ratio.mantissa_by_digits.Given as goal
 
 abbrev pub invariant-loop-i : goal.invariant-loop-i

@@ -1,5 +1,5 @@
 -- `number::ratio::mantissa_by_division` meets its contract. Assumes nothing.
-use Rattle.std.proofs.Common.{ℕ, ◌+◌, ◌*◌, ◌/◌, ◌<◌, ◌≤◌, le_refl, div-lt_iff_lt-mul, le-div_iff_mul-le, arith, rules}
+use Rattle.std.proofs.Common.{ℕ, ◌+◌, ◌*◌, ◌/◌, ◌<◌, ◌≤◌, le_refl, div-lt_iff_lt-mul, le-div_iff_mul-le, arith}
 use Rattle.number.specs.Storing.{Normalised}
 use Rattle.number.proofs.Normalised.{cell}
 use Rattle.number.proofs.ratio.mantissa_by_division.Goals as goal

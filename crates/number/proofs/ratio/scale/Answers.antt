@@ -1,5 +1,5 @@
 -- `number::ratio::scale` meets its contract: with their top bits at one place, two numbers have a quotient between 1/2 and 2.
-use Rattle.std.proofs.Common.{◌≡◌, ℕ, ◌+◌, ◌-◌, ◌*◌, ◌^◌, ◌<◌, ◌≤◌, ap, ◌∙◌, subst, arith, pow-add, rules}
+use Rattle.std.proofs.Common.{◌≡◌, ℕ, ◌+◌, ◌-◌, ◌*◌, ◌^◌, ◌<◌, ◌≤◌, ap, ◌∙◌, subst, arith, pow-add}
 use native.Mathlib.Decide.{dec_lt}
 use Rattle.number.specs.Fractions.{◌over◌}
 use Rattle.number.specs.Storing.{Normalised, Scales}

@@ -1,5 +1,5 @@
 -- `number::source::float_to_channel` meets its contract. Assumes nothing.
-use Rattle.std.proofs.Common.{sym, ap, ◌∙◌, rules}
+use Rattle.std.proofs.Common.{sym, ap, ◌∙◌}
 use Rattle.number.specs.Channels.{channel_of}
 use Rattle.number.proofs.Sources.{subnormal, normal, refused, negative, positive}
 use Rattle.number.proofs.source.float_to_channel.Goals as goal

@@ -1,5 +1,5 @@
 -- `number::source::half_code` meets its contract. Assumes nothing.
-use Rattle.std.proofs.Common.{◌∙◌, arith, rules}
+use Rattle.std.proofs.Common.{◌∙◌, arith}
 use Rattle.number.proofs.Halves.{plain_half}
 use Rattle.number.proofs.source.half_code.Goals as goal
 

@@ -1,5 +1,5 @@
 -- `number::source::plain_half_code` meets its contract. Assumes nothing.
-use Rattle.std.proofs.Common.{sym, ⊎_elim, arith, rules}
+use Rattle.std.proofs.Common.{sym, arith}
 use Rattle.number.proofs.Halves.{plain_zero, plain_beyond, plain_power, plain_normal}
 use Rattle.number.proofs.source.plain_half_code.Goals.{else-bits-eq0, else-bits-lt31744, then-bits-eq0, then-bits-lt31744}
 use Rattle.number.proofs.source.plain_half_code.Goals as goal

@@ -1,7 +1,6 @@
 -- `number::whole::shift_up` meets its contract. Assumes nothing.
-use Rattle.std.proofs.Common.{◌≡◌, ℕ, ◌-◌, ◌*◌, ◌/◌, ◌%◌, ◌^◌, min, lt_of_le_of_lt, mod-eq_of_lt, arith, lit<}
+use Rattle.std.proofs.Common.{◌≡◌, ℕ, ◌*◌, ◌/◌, ◌%◌, ◌^◌, min, lt_of_le_of_lt, mod-eq_of_lt, arith, lit<}
 use native.Mathlib.Nat.{mul-div-mul_left}
-use lib.Count.{count_leading_zeros}
 use Rattle.number.specs.Fractions.{◌over◌}
 use Rattle.number.specs.Storing.{Scales}
 use Rattle.number.proofs.Shifts.{AboveHalf, halved}
