@@ -1,12 +1,12 @@
 -- The range of an average in steps and that of the stored average. Assumes nothing.
 use mathlib.Core.Path.{◌≡◌, refl, ap, subst, ◌∙◌}
 use mathlib.Core.Bool.{Bool, true, false, cond}
-use Prim.Native.Nat.{ℕ, zero, suc, ◌+◌, ◌-◌, ◌/◌, ◌%◌, ◌≤◌, ◌<◌, zero-le}
+use Prim.Native.Nat.{ℕ, zero, suc, ◌+◌, ◌-◌, ◌/◌, ◌%◌, ◌≤◌, ◌<◌}
 use native.Mathlib.Nat.{div-lt_iff_lt-mul, pos_of_ne-zero}
 use native.Mathlib.Omega.{arith}
-use lib.Dec.{eqb, le→leb, lit<}
+use lib.Dec.{eqb, lit<}
 use lib.IntN.{ℤ, pos, sub_ℕ, nat_abs, ◌+ℤ◌}
-use lib.Signed.{◌≤ℤ◌, le_z_yes}
+use lib.Signed.{◌≤ℤ◌}
 use borrow.Author.Tests.{eqb-true, eqb-false, ne_eqb}
 use Rattle.number.proofs.Laws.{same_difference, sub_pos, sub_plus, sub_least, sub_most, lowered}
 use Rattle.number.specs.declared.ratio.Stored.{Stored}
@@ -57,13 +57,6 @@ module _ (A : ℤ) (v : IsAverage A) where
     exponent_is =
         ap (λ z. floor_div z 256 +ℤ pos k) (raised A v).is ∙ ap (λ z. z +ℤ pos k) (floor_sub a 136 256 (lit< tt))
         ∙ sub_plus (a / 256) 136 k ∙ sub_pos (a / 256 + k) 136 (a / 256 + k - 136) (omega (arith, (raised A v).range.least))
-
-    pub exponent_range : (pos 0 ≤ℤ (floor_div A 256 +ℤ pos k)) × ((floor_div A 256 +ℤ pos k) ≤ℤ pos 255)
-    exponent_range =
-        rw exponent_is (
-          le_z_yes (le→leb 0 (a / 256 + k - 136) zero-le),
-          le_z_yes (le→leb (a / 256 + k - 136) 255 (omega (arith, (raised A v).range.most))),
-        )
 
   pub stored_average_range : IsStoredAverage (stored_average A)
   unfolding stored_average

@@ -4,8 +4,7 @@ pub mod Laws
 pub mod Greatest
 pub mod Rules
 pub mod Entries
--- signed numbers of 64 bits, and their division
-pub mod Signed
+-- division of signed numbers
 pub mod Division
 -- extremes, sums and averages
 pub mod Widening

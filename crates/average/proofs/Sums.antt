@@ -11,7 +11,7 @@ use lib.ListN.{length, length-append}
 use lib.Signed.{◌≤ℤ◌, le_z_yes}
 use mir.Syntax.{w64}
 use mir.Val.{SFits}
-use Rattle.number.proofs.Laws.{Every, sub_add, sub_least, sub_most, Lowered, lowered}
+use Rattle.number.proofs.Laws.{Every, sub_pos, sub_neg, sub_cases, sub_add, sub_least, sub_most, Lowered, lowered}
 use Rattle.number.specs.declared.ratio.Stored.{Stored}
 use Rattle.average.specs.Averages.{steps_of}
 use Rattle.average.specs.loops.Sums.{total, raised_steps, IsSum, IsTally}
@@ -20,7 +20,6 @@ use Rattle.average.specs.Tables.{log_test}
 use Rattle.average.specs.Tallies.{sum_of, tally_of}
 use Rattle.average.specs.Claims.{TalliesJoin}
 use Rattle.average.proofs.Rules.{log_le, log_from}
-use Rattle.average.proofs.Signed.{sub_fits}
 use Rattle.average.proofs.Widening.{extremes_append, extremes_mantissas}
 
 -- ---- one luminance
@@ -55,19 +54,18 @@ sum_lowered {n} {z} s = lowered (15630 * n) (14335 * n) z s.least s.most
 difference_is_sum : (n a b : ℕ) → n ≤ 2 ^ 40 → b ≤ a + 15630 * n → a ≤ b + 14335 * n → IsSum n (sub_ℕ a b)
 difference_is_sum n a b few l m = record { few = few; least = sub_least (15630 * n) a b l; most = sub_most (14335 * n) a b m }
 
+-- 64 bits hold it
+sub_fits : (a b : ℕ) → a < 2 ^ 63 → b < 2 ^ 63 → SFits w64 (sub_ℕ a b)
+sub_fits =
+    sub_cases (λ a b. a < 2 ^ 63 → b < 2 ^ 63 → SFits w64 (sub_ℕ a b))
+    (λ b d ha hb. rw (sub_pos (b + d) b d refl) (record { sfits = omega arith }))
+    (λ a d ha hb. rw (sub_neg a (suc a + d) d refl) (record { sfits = omega arith }))
+
 pub sum_fits : {n : ℕ} {z : ℤ} → IsSum n z → SFits w64 z
 sum_fits {n} s =
     let d = sum_lowered s in
     let few : n ≤ 2 ^ 40 = s.few in
     rw d.is (sub_fits d.from (15630 * n) (omega (arith, d.most)) (omega arith))
-
--- and two of them added up fit
-pub sums_fit : {n k : ℕ} {y z : ℤ} → IsSum n y → IsSum k z → SFits w64 (y +ℤ z)
-sums_fit {n} {k} s r =
-    let d = sum_lowered s in
-    let e = sum_lowered r in
-    rw (d.is, e.is, sub_add d.from (15630 * n) e.from (15630 * k))
-    (sub_fits (d.from + e.from) (15630 * n + 15630 * k) (omega (arith, s.few, r.few, d.most, e.most)) (omega (arith, s.few, r.few)))
 
 sum_more : {n : ℕ} {z : ℤ} (y : Stored) → IsSum n z → n < 2 ^ 40 → IsLuminance y → IsSum (n + 1) (z +ℤ steps_of y)
 sum_more {n} y s few l =

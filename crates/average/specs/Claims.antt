@@ -24,7 +24,7 @@ pub record LogIsNearest (M : ℕ) : Type 0 where
 abbrev pub LogsAreNearest : Type 0
 LogsAreNearest = (M : ℕ) → 128 ≤ M → M ≤ 255 → LogIsNearest M
 
--- "no entry is a tie": the logarithm lies half_way between t − 1 and t where both sides of the rule are equal, and they never are
+-- "no entry is a tie": the logarithm lies half-way between t − 1 and t where both sides of the rule are equal, and they never are
 abbrev pub NoTie : Type 0
 NoTie = (M t : ℕ) → 2 ^ (2 * t + 511) ≡ (2 * M + 1) ^ 512 → ⊥
 

@@ -34,7 +34,6 @@ const ROOTS: [u8; 256] = [
 ];
 
 // The table T by value: a loop lends it to each lookup.
-#[tactic(auto, unfolding(crate::specs::Tables::log_of, crate::specs::Tables::log_test, crate::specs::Tables::greatest))]
 pub fn log_table() -> [u16; 128]
     ensures { IsLogTable result }
 {
@@ -42,7 +41,6 @@ pub fn log_table() -> [u16; 128]
 }
 
 // The table X by value.
-#[tactic(auto, unfolding(crate::specs::Tables::root_of, crate::specs::Tables::root_test, crate::specs::Tables::greatest))]
 fn root_table() -> [u8; 256]
     ensures { IsRootTable result }
 {
