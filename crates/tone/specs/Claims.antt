@@ -101,9 +101,9 @@ LevelBound t p c level = WithinHalves 5 level (exact_value (curve_of t.white) t 
 -- "any of the three"
 infix 50 ◌of_pixel◌
 abbrev pub ◌of_pixel◌ : Channel → Pixel → Type 0
-c ofPixel p = (c ≡ p.red) ⊎ (c ≡ p.green) ⊎ (c ≡ p.blue)
+c of_pixel p = (c ≡ p.red) ⊎ (c ≡ p.green) ⊎ (c ≡ p.blue)
 
 -- for each channel of every lit pixel, under every key, stored average and white point
 abbrev pub LevelIsBounded : Type 0
-LevelIsBounded = (p : Pixel) → IsPixel p → (y : Stored) → luminance_of p ≡ Luminance.Lit y → (c : Channel) → c ofPixel p
+LevelIsBounded = (p : Pixel) → IsPixel p → (y : Stored) → luminance_of p ≡ Luminance.Lit y → (c : Channel) → c of_pixel p
     → (t : Tone) → IsTone t → LevelBound t p c (mapped_level t y c)
