@@ -11,6 +11,7 @@ const OFFSET_UNIT: u64 = 1099511627776;
 const LEVEL_UNIT: u64 = 70368744177664;
 
 // The power at the index behind i.
+#[tactic(auto, using(crate::proofs::Powers::power_most, crate::proofs::Powers::power_doubled, crate::proofs::Powers::power_same))]
 fn next_power(i: usize, power: u64) -> u64
     requires { (374 ≤ i) × (power ≡ power_at i) }
     ensures { result ≡ power_at (i + 1) }
@@ -19,7 +20,6 @@ fn next_power(i: usize, power: u64) -> u64
 }
 
 // The powers of two by offset plus channel exponent.
-#[tactic(auto, unfolding(crate::specs::loops::Factors::power_at))]
 pub fn power_table() -> [u64; 640]
     ensures { IsPowerTable result }
 {

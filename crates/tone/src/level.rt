@@ -55,7 +55,6 @@ fn divided(value: u64, exponent: u64) -> Stored
 // (i) 136 - E > 22, that is E below 114; (ii) 136 - E < -16, E above 152; (iii) between. What 004 leaves out of the denominator in (i) and
 // (ii) makes no difference to what is stored, L itself and (128,255). In (iii) it approximates, in fixed point of 32 bits; here the quotient
 // is exact.
-#[tactic(auto, unfolding(white::specs::Whites::white_fits))]
 fn plain_display(scaled: Stored) -> Stored
     requires { IsScaled scaled }
     ensures { result ≡ display_of reinhard scaled }
@@ -130,6 +129,7 @@ fn white_far(tenths: u64, value: u64, exponent: u64) -> Stored
 
 // Step 5 of a page with a white point, by the same cases: in (i) L itself; in (iii) an exact quotient; in (ii) by those above. With the white
 // point 1, L(1 + L) / (1 + L) is L itself.
+#[tactic(auto, using(white::proofs::Limits::white_limits))]
 fn white_display(tenths: u64, scaled: Stored) -> Stored
     requires { (white_fits (White.Tenths tenths) ≡ true) × IsScaled scaled }
     ensures { result ≡ display_of (white_point tenths) scaled }

@@ -2,7 +2,6 @@
 use mathlib.Core.Path.{sym}
 use native.Mathlib.Omega.{arith}
 use borrow.Author.Rules.{rules}
-use Rattle.white.proofs.Limits.{white_limits}
 use Rattle.tone.proofs.Displays.{dark_is_itself}
 use Rattle.tone.proofs.Whites.{white_one}
 use Rattle.tone.proofs.level.white_display.Goals as goal
@@ -14,15 +13,3 @@ returns-then-exponent c =
 pub returns-then-tenths-eq10 : goal.returns-then-tenths-eq10
 returns-then-tenths-eq10 c =
     rw c.if-tenths-eq10.true (sym (white_one _ (search rules)))
-
-pub white_divided-requires : goal.white_divided-requires
-white_divided-requires c =
-    omega (arith, white_limits _ c.requires.0)
-
-pub white_near-requires : goal.white_near-requires
-white_near-requires c =
-    omega (arith, white_limits _ c.requires.0)
-
-pub white_far-requires : goal.white_far-requires
-white_far-requires c =
-    omega (arith, white_limits _ c.requires.0)
