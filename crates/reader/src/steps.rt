@@ -27,6 +27,7 @@ fn pixel_begins(length: usize, position: usize) -> bool
 }
 
 // The answer at a position.
+#[tactic(auto, unfolding(crate::specs::Steps::step_at))]
 pub fn step_at(strip: &[u32], position: usize) -> Step
     ensures { result ≡ step_at strip.now position }
 {
@@ -44,6 +45,7 @@ pub fn step_at(strip: &[u32], position: usize) -> Step
 }
 
 // The position after a step: past the pixel that was told, else the same.
+#[tactic(auto, unfolding(crate::specs::Steps::position_after))]
 pub fn position_after(strip: &[u32], position: usize) -> usize
     ensures { result ≡ position_after strip.now position }
 {
