@@ -1,5 +1,6 @@
 // What every conversion does, whatever it reads: the checks of the page, where the channel words stand, and the words around them.
 #![tactic(auto)]
+
 ghost use Rattle.std.specs.Prelude.{◌≡◌, true, ◌≤◌, length};
 ghost use Rattle.std.proofs.lemmas.List.Edits.{sets};
 ghost use Rattle.white.specs.Whites.{white_fits};
