@@ -50,6 +50,7 @@ pub fn half_to_channel(bits: u16) -> Decoded
 
 // The 16-bit form of the channel of a half that is no positive subnormal number, without a branch; 0 where the half is refused. A normal
 // half has its own exponent and first digits; a power of two has the exponent below, and the mantissa 255.
+#[tactic(auto, unfolding(crate::specs::loops::Halves::plain_half_code))]
 pub fn plain_half_code(bits: u16) -> u16
     ensures { result ≡ plain_half_code bits }
 {
