@@ -47,57 +47,6 @@ or_none a b none =
     let e : bit_or a b / 128 % 2 ≡ bit_or (a / 128 % 2) (b / 128 % 2) = ap (λ n. n % 2) (or_shr a b 7) ∙ or_mod (a / 128) (b / 128) 1 in
     (record { small = omega arith; even = omega arith }, record { small = omega arith; even = omega arith })
 
--- ---- words one behind the other
-
-pub none_held : (ws : List ℕ) (i j : ℕ) → j ≤ i → AllHold ws i j
-none_held ws i j h = record { held = λ k l m. absurd (omega arith) }
-
-pub held_less : (ws : List ℕ) (i j n : ℕ) → AllHold ws i j → n ≤ j → AllHold ws i n
-held_less ws i j n h l = record { held = λ k a b. h.held k a (omega arith) }
-
-module _ (ws : List ℕ) (i j : ℕ) (so_far : AllHold ws i j) where
-  pub held_append : (n : ℕ) → AllHold ws j n → AllHold ws i n
-  held_append n more = record { held = λ k l m. go k l m (dec_lt k j) }
-    where
-      go : (k : ℕ) → i ≤ k → k < n → Dec (k < j) → decode_word k (get_or ws k 0) ≡ Holds (word_channel (get_or ws k 0))
-      go k l m (yes h) = so_far.held k l h
-      go k l m (no h) = more.held k (omega arith) m
-
-  pub held_next : decode_word j (get_or ws j 0) ≡ Holds (word_channel (get_or ws j 0)) → AllHold ws i (j + 1)
-  held_next e = held_append (j + 1) (record { held = λ k l m. let q : k ≡ j = omega arith in rw q e })
-
--- to the same end
-pub held_until : {ws : List ℕ} {i j n : ℕ} → AllHold ws i j → j ≡ n → AllHold ws i n
-held_until {ws} {i} h e = subst (AllHold ws i) e h
-
--- the quarters begun, gone on with, and one behind the other
-pub no_quarters : (ws : List ℕ) (quarter : ℕ) → QuartersHold ws quarter 0 0
-no_quarters ws quarter =
-    record {
-      first = none_held _ _ _ (le_refl _);
-      second = none_held _ _ _ (le_refl _);
-      third = none_held _ _ _ (le_refl _);
-      fourth = none_held _ _ _ (le_refl _);
-    }
-
-pub quarters_append : (ws : List ℕ) (quarter i j n : ℕ) → QuartersHold ws quarter i j → QuartersHold ws quarter j n
-    → QuartersHold ws quarter i n
-quarters_append ws quarter i j n h k =
-    record {
-      first = held_append _ _ _ h.first _ k.first;
-      second = held_append _ _ _ h.second _ k.second;
-      third = held_append _ _ _ h.third _ k.third;
-      fourth = held_append _ _ _ h.fourth _ k.fourth;
-    }
-
-pub quarters_whole : (ws : List ℕ) (quarter j : ℕ) → QuartersHold ws quarter 0 j → j ≡ quarter → AllHold ws 0 (4 * quarter)
-quarters_whole ws q j k e =
-    let h = subst (QuartersHold ws q 0) e k in
-    let one : AllHold ws 0 (q + 0) = held_until h.first (omega arith) in
-    let two : AllHold ws 0 (2 * q + 0) = held_until (held_append ws 0 (q + 0) one (q + q) h.second) (omega arith) in
-    let three : AllHold ws 0 (3 * q + 0) = held_until (held_append ws 0 (2 * q + 0) two (2 * q + q) h.third) (omega arith) in
-    held_until (held_append ws 0 (3 * q + 0) three (3 * q + q) h.fourth) (omega arith)
-
 -- where all hold, none is refused, wherever the words begin
 pub held_accepted : (start : ℕ) (ws : List ℕ) → AllHold ws 0 (length ws) → first_refusal (placed decode_word start 0 ws) ≡ Accepted
 held_accepted start ws h = sym (checking_done decode_word start ws (length ws) (go (length ws) (le_refl _)) (le_refl _))

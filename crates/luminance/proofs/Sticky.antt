@@ -15,13 +15,6 @@ pub jam_multiple : (v k : ℕ) → jam_of (v * 2 ^ k) k ≡ 2 * v
 unfolding jam_of
 jam_multiple v k = omega (arith, mul-div_cancel v (pow_pos k), mul-mod_left v (2 ^ k))
 
-pub jam_le : (t k : ℕ) → jam_of t (k + 1) ≤ t + 1
-unfolding jam_of
-jam_le t k =
-    let h : t / 2 ^ (k + 1) * 2 ≤ t =
-    le_trans (mul-le-mul_left _ (pow_mono {i = 1} {j = k + 1} (omega arith))) (div-mul-le_self t (2 ^ (k + 1))) in
-    omega arith
-
 -- a multiple of 2^k is added
 jam_add : (t v k : ℕ) → jam_of (t + v * 2 ^ k) k ≡ jam_of t k + 2 * v
 unfolding jam_of

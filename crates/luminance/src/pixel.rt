@@ -65,7 +65,6 @@ fn add_term(sum: u64, gap: u64, value: u64) -> u64
 }
 
 // A hundredth of the sum of three terms, from the largest exponent to the smallest.
-#[tactic(auto, unfolding(crate::proofs::Sticky::jam_of))]
 fn store_sorted(a: Term, b: Term, c: Term) -> Stored
     requires le_value { (1 ≤ a.value) × (a.value ≤ 34237) × (b.value ≤ 34237) × (c.value ≤ 34237) }
     requires le_exponent { (24 ≤ a.exponent) × (a.exponent ≤ 184) × (b.exponent ≤ a.exponent) × (c.exponent ≤ b.exponent) }

@@ -1,8 +1,6 @@
--- What the loop keeps to.
-use Rattle.std.proofs.Common.{◌≡◌, ℕ, ◌-◌, ◌%◌, ◌≤◌, arith, rules}
-use borrow.Author.Tests.{not-false}
+-- The words of the blocks so far hold, in each quarter.
+use Rattle.std.proofs.Common.{◌≡◌, ◌-◌, ◌%◌, ◌≤◌}
 use Rattle.channels.specs.loops.Holding.{QuartersHold}
-use Rattle.channels.proofs.Held.{held_append, no_quarters, quarters_append, quarters_whole}
 use Rattle.channels.proofs.all_hold.Given as goal
 
 abbrev pub invariant-loop-start : goal.invariant-loop-start

@@ -1,8 +1,6 @@
--- What the loop keeps to.
-use Rattle.std.proofs.Common.{◌≡◌, ◌+◌, ◌-◌, ◌≤◌, arith, rules}
-use Rattle.word.proofs.BlockKinds.{kind_at}
+-- As long as there is no fault, the words so far hold.
+use Rattle.std.proofs.Common.{◌+◌, ◌-◌, ◌≤◌}
 use Rattle.channels.specs.loops.Holding.{NoFault, AllHold}
-use Rattle.channels.proofs.Held.{none_held, held_next}
 use Rattle.channels.proofs.block_holds.Given as goal
 
 abbrev pub invariant-loop-j : goal.invariant-loop-j

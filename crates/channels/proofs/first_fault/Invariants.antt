@@ -1,8 +1,8 @@
--- What the loop keeps to.
-use Rattle.std.proofs.Common.{◌≡◌, ◌-◌, length, refl, rules}
+-- The verdict on the words that are left is that on all.
+use Rattle.std.proofs.Common.{◌≡◌, ◌-◌, length}
 use Rattle.word.specs.Placing.{placed, first_refusal}
 use Rattle.word.specs.Fields.{decode_word}
-use Rattle.word.proofs.Walks.{checking, checking_all, checking_next, checking_refused, checking_done}
+use Rattle.word.proofs.Walks.{checking}
 use Rattle.channels.proofs.first_fault.Given as goal
 
 abbrev pub invariant-loop-k : goal.invariant-loop-k

@@ -1,8 +1,6 @@
--- What the loop keeps to.
-use Rattle.std.proofs.Common.{◌≡◌, ℕ, ◌-◌, length, le_refl, arith, rules}
-use borrow.Author.Tests.{not-false}
+-- The words so far hold.
+use Rattle.std.proofs.Common.{◌-◌, length}
 use Rattle.channels.specs.loops.Holding.{AllHold}
-use Rattle.channels.proofs.Held.{none_held, held_next, held_less}
 use Rattle.channels.proofs.rest_holds.Given as goal
 
 abbrev pub invariant-loop-k : goal.invariant-loop-k

@@ -1,7 +1,6 @@
 -- What the loop keeps to.
-use Rattle.std.proofs.Common.{◌≡◌, ℕ, ◌+◌, ◌-◌, ◌*◌, ◌^◌, ◌≤◌, refl, arith, pow-add, rules}
-use Rattle.number.proofs.Laws.{Filled, filled_none, filled_next}
-use Rattle.luminance.proofs.Products.{shift_most}
+use Rattle.std.proofs.Common.{◌≡◌, ◌-◌, ◌*◌, ◌^◌, ◌≤◌}
+use Rattle.number.proofs.Laws.{Filled}
 use Rattle.luminance.proofs.index.weight_table.Given as goal
 
 -- the first i entries are filled, and `entry` is the next
