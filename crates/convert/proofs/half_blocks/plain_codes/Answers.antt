@@ -1,0 +1,10 @@
+-- `convert::half_blocks::plain_codes` meets its contract. Assumes nothing.
+use Rattle.std.proofs.Common.{◌≡◌, ◌+◌, ◌-◌, get_or, ◌∙◌, arith, rules}
+use Rattle.number.specs.loops.Halves.{half_code}
+use Rattle.number.proofs.Laws.{Filled, filled_none, filled_next, plain_half}
+use Rattle.convert.proofs.half_blocks.plain_codes.Goals as goal
+
+pub loop-j-preserved : goal.loop-j-preserved
+loop-j-preserved c =
+    filled_next c.loop-j.invariant c.loop-j-test.true
+    (c.plain_half_code.ensures ∙ plain_half _ (c.requires.1.plain _ c.loop-j-test.true))
