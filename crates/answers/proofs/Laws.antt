@@ -19,7 +19,6 @@ use Rattle.body.specs.Luminances.{luminances_of, lit_count}
 use Rattle.page.specs.declared.tally.TallyOrRefusal.{TallyOrRefusal}
 use Rattle.page.specs.declared.tally.TallyOrRefusal.TheVariants.{Holds, Refuses}
 use Rattle.page.specs.Claims.{ExtremesOn, TallyPromise, MapPromise}
-use Rattle.page.specs.Tallying.{tally_told}
 use Rattle.answers.specs.declared.tallies.TallyAnswer.{TallyAnswer}
 use Rattle.answers.specs.Answers.{tally_answer, Reports}
 use Rattle.answers.specs.Claims.{TallyBound, MapBound}
@@ -55,9 +54,8 @@ bounded s (Refuses r i) p =
       refused = λ _. (refl, refl, refl, refl, refl, refl, refl);
     }
 
-pub answered : (s : List ℕ) (a : TallyOrRefusal) (r : TallyAnswer) {rule : TallyOrRefusal} → r ≡ tally_answer a
-    → (a ≡ rule) × ((tally_told a ≡ tally_told rule) × TallyPromise s a) → (r ≡ tally_answer rule) × TallyBound s r
-answered s a r q p = (q ∙ ap tally_answer p.0, subst (TallyBound s) (sym q) (bounded s a p.1.1))
+pub tally_bounded : (s : List ℕ) (a : TallyOrRefusal) (r : TallyAnswer) → r ≡ tally_answer a → TallyPromise s a → TallyBound s r
+tally_bounded s a r q p = subst (TallyBound s) (sym q) (bounded s a p)
 
 -- mapping's promise
 pub map_bounded : (s : List ℕ) (v : Verdict) (r : Outcome) (bytes : List ℕ) → r ≡ report_of v → MapPromise s v bytes → MapBound s r bytes

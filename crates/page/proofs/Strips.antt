@@ -67,6 +67,11 @@ module _ (s : List ℕ) (ok : Whole s) where
     pub words_tally : tally_of (luminances_of (word_pixels words)) ≡ strip_tally s
     words_tally = rw (e, pixels_in s ok.channels)
 
+    -- with the indices of its luminances in an output
+    pub words_indices : (old : List ℕ) {new : List ℕ} → new ≡ onto (indices_of (word_pixels words)) old
+        → new ≡ onto (indices_of (strip_pixels s)) old
+    words_indices old f = rw (e, ← pixels_in s ok.channels) at f
+
     -- lit pixels are counted until they are enough
     pub words_light : check_light (min (enough_for (length words / 3)) (lit_count (word_pixels words))) (length words / 3) ≡ strip_light s
     words_light = counted_enough _ _ ∙ rw (words_count, e, pixels_in s ok.channels)
