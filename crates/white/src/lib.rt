@@ -1,5 +1,6 @@
 // A page's white point (2026-05), and its limits.
 #![tactic(auto)]
+
 ghost use Rattle.std.specs.Prelude.{◌≡◌};
 ghost use Rattle.white.specs.Whites.{tenths_fit, white_fits, same_white};
 

@@ -1,8 +1,7 @@
 -- What the loop keeps to.
 use Prim.Native.Nat.{◌-◌}
-use mathlib.Core.Path.{◌≡◌, refl}
-use native.Mathlib.Omega.{arith}
-use Rattle.number.proofs.Laws.{Filled, filled_none, filled_next}
+use mathlib.Core.Path.{◌≡◌}
+use Rattle.number.proofs.Laws.{Filled}
 use Rattle.word.specs.Words.{channel_word}
 use Rattle.word.proofs.kinds.block_kinds.Given as goal
 
