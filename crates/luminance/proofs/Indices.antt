@@ -1,21 +1,7 @@
 -- The index of a luminance: what stands at it, and how a sum of weighted channels gives it by thirteen binary digits. Assumes nothing.
 use Rattle.std.proofs.Common.{◌≡◌, ℕ, ◌+◌, ◌-◌, ◌*◌, ◌/◌, ◌%◌, ◌^◌, ◌<◌, ◌≤◌, min, ◌⊎◌, sym, refl, ap, ◌∙◌, ap₂, subst₂, inl, inr, mul-le-mul_right, mul-le-mul, mul-lt-mul_of_pos_right, mul-pos, lt_of_not-le, arith, lit<, pow_pos, pow_mono, pow-add}
 use native.Mathlib.Decide.{dec_le}
-use Rattle.number.proofs.Laws.{
-  ◌over◌,
-  Normalised,
-  Scales,
-  Stores,
-  IsLit,
-  Coded,
-  unit,
-  stored_of,
-  unit_pos,
-  cell,
-  powers_into,
-  rescale,
-  stored_as,
-}
+use Rattle.number.proofs.Laws.{◌over◌, Scales, Stores, IsLit, Coded, unit, stored_of, unit_pos, cell, powers_into, rescale, stored_as}
 use Rattle.number.specs.declared.channel.Channel.{Channel}
 use Rattle.number.specs.declared.channel.Channel.TheVariants.{Black, Lit}
 use Rattle.number.specs.declared.channel.Pixel.{Pixel}

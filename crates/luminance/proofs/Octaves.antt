@@ -54,6 +54,12 @@ octave_index_law s q e d quotient h o above =
     (scaled_stored s e (12 + j) M (d + j + 66) (omega arith)
     (record { normalised = cell (omega (arith, half)) o.most (omega (arith, floor)) (omega (arith, ceiling)) })))
 
+octave_placed_law : (s i E : ℕ) → Octave (s / 64 / 25) → i < 2 ^ 16 → (i + 8704) % 2 ^ 16 ≡ 128 * E + octave_index (s / 64 / 25)
+    → 72 ≤ E → (i % 128 ≡ 0 → ⊥) → i ≡ index_of (Luminance.Lit (stored_of (s * 2 ^ (E - 4) over 100 * unit)))
+octave_placed_law s i E o fits e low other =
+    let placed = octave_placed i E o.j o.M fits (rw o.index at e) o.least low other in
+    placed.2 ∙ octave_index_law s (s / 64 / 25) (E - 4) (E - 67) refl placed.1 o placed.0
+
 module _ (p : Pixel) {m n l x z s : ℕ} (red : Coded m p.red) (green : Coded n p.green) (blue : Coded l p.blue)
     (rx : (x < 8) × (x + n / 256 ≡ m / 256 + 4)) (bz : (z < 8) × (z + n / 256 ≡ l / 256 + 4))
     (sum : s ≡ (2 * (m % 256) + 1) * (27 * 2 ^ (x % 8)) + (2 * (n % 256) + 1) * (67 * 2 ^ 4) + (2 * (l % 256) + 1) * (6 * 2 ^ (z % 8)))
@@ -68,11 +74,8 @@ module _ (p : Pixel) {m n l x z s : ℕ} (red : Coded m p.red) (green : Coded n 
       let total = rw (ex, ez) at sum in
       let some : m ≡ 0 → n ≡ 0 → l ≡ 0 → ⊥ = λ h h' h''. lit (omega arith) in
       let green_lit = (all_lit p 4 red green blue rx' bz' (omega arith) total some).1.1 in
-      let o = octave_of (s / 64 / 25) (omega (arith, sum, green_lit.mantissa.least)) (omega arith) in
-      let placed = octave_placed i (n / 256) o.j o.M fits (e ∙ ap (λ (v : ℕ). 128 * (n / 256) + v) o.index) o.least
-      green_lit.least other in
-      placed.2
-      ∙ octave_index_law s (s / 64 / 25) (n / 256 - 4) (n / 256 - 67) refl placed.1 o placed.0
+      octave_placed_law s i (n / 256) (octave_of (s / 64 / 25) (omega (arith, sum, green_lit.mantissa.least)) (omega arith)) fits e
+      green_lit.least other
       ∙ sum_index p 4 red green blue rx' bz' (omega arith) total some
 
 -- ---- the index by codes, in each of its cases

@@ -1,6 +1,6 @@
 -- Sums cut from below, with one sticky bit that tells whether anything was cut off: how a term is added to one, and that it is stored
 -- as the whole sum. Assumes nothing.
-use Rattle.std.proofs.Common.{◌≡◌, ℕ, zero, suc, ◌+◌, ◌-◌, ◌*◌, ◌/◌, ◌%◌, ◌^◌, ◌<◌, ◌≤◌, min, sym, ap, ◌∙◌, subst, ap₂, le_trans, mod-lt, add_comm, mul-le-mul_left, pow-suc, div-add-mod', sub-add_cancel, div-mul-le_self, mul-div_cancel, add-one, arith, lit<, pow_pos, pow_mono, shr-shr}
+use Rattle.std.proofs.Common.{◌≡◌, ℕ, zero, suc, ◌+◌, ◌-◌, ◌*◌, ◌/◌, ◌%◌, ◌^◌, ◌<◌, ◌≤◌, min, sym, ap, ◌∙◌, subst, ap₂, mod-lt, add_comm, pow-suc, div-add-mod', sub-add_cancel, mul-div_cancel, add-one, arith, lit<, pow_pos, shr-shr}
 use native.Mathlib.Nat.{add-mul-div_right, add-mul-mod_self_right, div-div-eq-div-mul, mul-mod_left, pow-succ'}
 use lib.Arith.{mod-mul}
 use lib.Pow.{mod-pow-add}

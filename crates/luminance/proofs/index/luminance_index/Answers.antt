@@ -25,14 +25,13 @@ pub returns-then-red-green-eq0 : goal.returns-then-red-green-eq0
 returns-then-red-green-eq0 c = black_index _ c.requires.2 c.requires.3 c.requires.4 (omega arith) (omega arith) (omega arith)
 
 pub weighted_sum-sum-requires : goal.weighted_sum-sum-requires
-weighted_sum-sum-requires c =
-    (
-      entry_most 27 _ _ c.requires.0 c.if-r-ge48.false,
-      entry_most 6 _ _ c.requires.1 c.if-b-ge48.false,
-      omega arith,
-      omega arith,
-      omega arith,
-    )
+weighted_sum-sum-requires c = (
+  entry_most 27 _ _ c.requires.0 c.if-r-ge48.false,
+  entry_most 6 _ _ c.requires.1 c.if-b-ge48.false,
+  omega arith,
+  omega arith,
+  omega arith,
+)
 
 pub cut_index-requires : goal.cut_index-requires
 cut_index-requires c =

@@ -14,15 +14,15 @@ returns-else-exponent-eq0 c =
     let at_red = c.near_place-r.ensures in
     let at_blue = c.near_place-b.ensures in
     elim c.if-b-lt8.branch [
-      then-b-lt8 near ↦
-      let blue = rw at_blue at near.if-b-lt8.true in
-      elim c.if-r-lt8.branch [
-        then-r-lt8 near_red ↦
-        near.near-is ∙ near_red.near_red-is
-        ∙ worked_out _ _ _ lit blue _ _ _ (rw at_red at near_red.if-r-lt8.true)
-        (c.near_sum-sum.ensures.sum ∙ ap₂ (near_sum _ _ _) at_red at_blue)
-        c.octave_index-octave.ensures (omega arith) c.wrapping_sub_u16-index.ensures.value
-        | else-r-lt8 far ↦ near.near-is ∙ far.near_red-is ∙ sym (far_red _ _ _ lit blue (rw at_red at far.if-r-lt8.false))
-      ]
+      | then-b-lt8 near ↦
+          let blue = rw at_blue at near.if-b-lt8.true in
+          elim c.if-r-lt8.branch [
+            | then-r-lt8 near_red ↦
+                near.near-is ∙ near_red.near_red-is
+                ∙ worked_out _ _ _ lit blue _ _ _ (rw at_red at near_red.if-r-lt8.true)
+                (c.near_sum-sum.ensures.sum ∙ ap₂ (near_sum _ _ _) at_red at_blue)
+                c.octave_index-octave.ensures (omega arith) c.wrapping_sub_u16-index.ensures.value
+            | else-r-lt8 far ↦ near.near-is ∙ far.near_red-is ∙ sym (far_red _ _ _ lit blue (rw at_red at far.if-r-lt8.false))
+          ]
       | else-b-lt8 far ↦ far.near-is ∙ sym (far_blue _ _ _ lit (rw at_blue at far.if-b-lt8.false))
     ]
