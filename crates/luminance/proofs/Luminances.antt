@@ -66,7 +66,9 @@ module _ (p : Pixel) (e e' e'' : ℕ) (red : is_black p.red ≡ eqb e 0) (green 
   pub lit_sum : (s : Stored) (n : ℕ) → s ≡ stored_of (n over 100 * unit)
       → n ≡ 27 * (worth_of p.red).num + 67 * (worth_of p.green).num + 6 * (worth_of p.blue).num
       → (e + e' + e'' ≡ 0 → ⊥) → Luminance.Lit s ≡ luminance_of p
-  lit_sum s n h k l = ap Luminance.Lit (h ∙ ap (λ (x : ℕ). stored_of (x over 100 * unit)) k) ∙ sym (lit l)
+  lit_sum s n h k l =
+      let sum : n ≡ (exact_luminance p).num = omega arith in
+      ap Luminance.Lit (h ∙ ap (λ (x : ℕ). stored_of (x over 100 * unit)) sum) ∙ sym (lit l)
 
 -- ---- where luminances lie
 

@@ -38,11 +38,11 @@ cut_index-requires c =
     omega (
       arith,
       near _ _ _ _ _ _ _ _ _ _ c.requires (c.if-r-ge48.false, c.place_of-r.ensures) (c.if-b-ge48.false, c.place_of-b.ensures)
-          c.weighted_sum-sum.ensures.sum c.if-red-green-eq0.false c.cut-first.ensures c.if-first-eq6400.false,
+          c.weighted_sum-sum.ensures.sum c.if-red-green-eq0.false c.cut-first.ensures (λ e. omega arith),
     )
 
 pub returns : goal.returns
 returns c =
     c.cut_index.ensures
     ∙ (near _ _ _ _ _ _ _ _ _ _ c.requires (c.if-r-ge48.false, c.place_of-r.ensures) (c.if-b-ge48.false, c.place_of-b.ensures)
-    c.weighted_sum-sum.ensures.sum c.if-red-green-eq0.false c.cut-first.ensures c.if-first-eq6400.false).1
+    c.weighted_sum-sum.ensures.sum c.if-red-green-eq0.false c.cut-first.ensures (λ e. omega arith)).1

@@ -13,4 +13,4 @@ overflow_mul-entry c = omega (arith, shift_most c.args.weight c.loop-i.i 67 47 (
 pub loop-i-preserved : goal.loop-i-preserved
 loop-i-preserved c =
     let h = c.loop-i.invariant in
-    (omega arith, next c.args.weight c.loop-i.entry c.loop-i.i h.1, filled_next h.2 (omega arith) h.1)
+    (omega arith, omega (arith, next c.args.weight c.loop-i.entry c.loop-i.i h.1), filled_next h.2 (omega arith) (omega arith))
