@@ -3,7 +3,7 @@ use Rattle.std.proofs.Common.{◌≡◌, sym, ◌∙◌}
 use Rattle.tone.proofs.Laws.{factor_by_law}
 use Rattle.body.specs.loops.FactorTables.{factor_under}
 use Rattle.body.proofs.Indices.{is_luminance}
-use Rattle.body.proofs.Factors.{factor_lit, kept, not_unlit, with_entry}
+use Rattle.body.proofs.Factors.{factor_lit, not_unlit, with_entry}
 use Rattle.body.proofs.levels.factor_at.Goals as goal
 
 -- the index of an entry that is not there yet is not that of the unlit pixels

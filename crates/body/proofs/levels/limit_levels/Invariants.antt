@@ -1,9 +1,7 @@
 -- What the loop keeps to.
-use Rattle.std.proofs.Common.{◌≡◌, ◌-◌, ◌≤◌, length, sym, ◌∙◌, append-nil, arith, drop_of_length-le, rules}
-use Rattle.refusal.proofs.Outputs.{sets_front}
-use Rattle.word.proofs.Walks.{storing, storing_all, storing_next, storing_done}
+use Rattle.std.proofs.Common.{◌≡◌, ◌-◌, ◌≤◌, length}
+use Rattle.word.proofs.Walks.{storing}
 use Rattle.body.specs.loops.LevelBlocks.{limited_front}
-use Rattle.body.proofs.LevelBlocks.{length_limited, limited_at}
 use Rattle.body.proofs.levels.limit_levels.Given as goal
 
 abbrev pub invariant-loop-j : goal.invariant-loop-j

@@ -1,12 +1,7 @@
 -- What the loop keeps to.
-use Rattle.std.proofs.Common.{◌≡◌, ℕ, ◌+◌, ◌-◌, ◌*◌, ◌/◌, ◌≤◌, List, length, take, drop, sym, refl, ap, ◌∙◌, ap₂, arith, length-take, rules}
-use borrow.Rule.Slice.PartMut.{put_mid}
-use Rattle.word.specs.Pixels.{word_pixels}
-use Rattle.body.specs.Levels.{levels_under}
+use Rattle.std.proofs.Common.{◌≡◌, ◌-◌, ◌≤◌, length}
 use Rattle.body.specs.loops.FactorTables.{IsFactorTable}
-use Rattle.body.specs.loops.Indices.{indices_of}
-use Rattle.body.proofs.Indices.{body_part_law}
-use Rattle.body.proofs.LevelBlocks.{filled, filled_none, filled_room, filled_part, filled_next, filled_done}
+use Rattle.body.proofs.LevelBlocks.{filled}
 use Rattle.body.proofs.levels.map_levels.Given as goal
 
 abbrev pub invariant-loop-p : goal.invariant-loop-p

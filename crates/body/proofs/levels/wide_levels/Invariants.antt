@@ -1,17 +1,9 @@
 -- What the loop keeps to.
-use Rattle.std.proofs.Common.{◌≡◌, ◌+◌, ◌-◌, ◌*◌, ◌/◌, ◌<◌, ◌≤◌, [], ◌∷◌, length, take, ap, ◌∙◌, arith, take_all, rules}
-use lib.Seq.{length-sets}
+use Rattle.std.proofs.Common.{◌≡◌, ◌-◌, ◌*◌, ◌≤◌, length, take}
 use Rattle.word.specs.Pixels.{word_pixels}
-use Rattle.word.specs.loops.Walks.{pixel_at}
-use Rattle.word.proofs.Pixels.{length_word_pixels}
 use Rattle.body.specs.Levels.{levels_under}
 use Rattle.body.specs.loops.LevelBlocks.{limited_front}
-use Rattle.body.specs.loops.FactorTables.{factor_under, IsFactorTable}
-use Rattle.body.specs.loops.Indices.{pixel_index}
-use Rattle.body.proofs.LevelBlocks.{block_long, block_none, block_next}
-use Rattle.body.proofs.Factors.{factor_range, levels_by}
-use Rattle.body.proofs.Indices.{is_index, index_read}
-use Rattle.body.proofs.Luminances.{pixel_valid}
+use Rattle.body.specs.loops.FactorTables.{IsFactorTable}
 use Rattle.body.proofs.levels.wide_levels.Given as goal
 
 abbrev pub invariant-loop-j : goal.invariant-loop-j

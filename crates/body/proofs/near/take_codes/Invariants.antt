@@ -1,6 +1,6 @@
 -- What the loop keeps to.
-use Rattle.std.proofs.Common.{◌≡◌, ◌+◌, ◌-◌, ◌*◌, get_or, arith, rules}
-use Rattle.number.proofs.Laws.{Filled, filled_none, filled_next}
+use Rattle.std.proofs.Common.{◌≡◌, ◌+◌, ◌-◌, ◌*◌, get_or}
+use Rattle.number.proofs.Laws.{Filled}
 use Rattle.word.specs.Fields.{low16}
 use Rattle.body.proofs.near.take_codes.Given as goal
 

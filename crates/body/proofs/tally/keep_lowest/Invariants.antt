@@ -1,7 +1,6 @@
 -- What the loop keeps to.
-use Rattle.std.proofs.Common.{◌≡◌, ◌-◌, ◌<◌, min, map, length, get_or, take, set, sym, ap, ◌∙◌, arith, length-set, take_all, rules}
+use Rattle.std.proofs.Common.{◌≡◌, ◌-◌, min, map, length, take}
 use Rattle.body.specs.loops.Tallying.{lowest, from_darkest, from_brightest}
-use Rattle.body.proofs.Tallying.{lowest_most, kept_next}
 use Rattle.body.proofs.tally.keep_lowest.Given as goal
 
 abbrev pub invariant-loop-j : goal.invariant-loop-j

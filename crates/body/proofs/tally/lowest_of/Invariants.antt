@@ -1,7 +1,6 @@
 -- What the loop keeps to.
-use Rattle.std.proofs.Common.{◌≡◌, ◌-◌, min, get_or, take, refl, ap, ◌∙◌, arith, take_all, rules}
+use Rattle.std.proofs.Common.{◌≡◌, ◌-◌, take}
 use Rattle.body.specs.loops.Tallying.{lowest}
-use Rattle.body.proofs.Tallying.{lowest_take}
 use Rattle.body.proofs.tally.lowest_of.Given as goal
 
 abbrev pub invariant-loop-j : goal.invariant-loop-j
