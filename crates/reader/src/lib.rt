@@ -1,6 +1,7 @@
 // The page reader: it keeps a lent strip and walks it pixel by pixel. The functions over the struct are thin; the work is done on a plain
 // slice and a position, in `steps`.
 #![tactic(auto)]
+
 mod steps;
 
 ghost use Rattle.std.specs.Prelude.{◌≡◌};

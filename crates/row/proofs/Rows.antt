@@ -1,12 +1,13 @@
 -- A row lies among the channel words of its strip. Assumes nothing.
-use Prim.Native.Nat.{ℕ, zero, suc, ◌+◌, ◌<◌}
+use Prim.Native.Nat.{ℕ, zero, suc, ◌+◌, ◌*◌, ◌<◌}
 use mathlib.Core.Path.{◌≡◌, refl, sym, ap, ◌∙◌}
 use mathlib.Core.List.{List}
 use native.Mathlib.Omega.{arith}
 use lib.ListN.{length}
 use Rattle.refusal.specs.declared.Verdict.{Verdict}
 use Rattle.refusal.specs.declared.Verdict.TheVariants.{Accepted, Refused}
-use Rattle.strip.specs.Checks.{check_row}
+use Rattle.word.specs.Words.{body_start}
+use Rattle.strip.specs.Checks.{header_fields, check_row}
 use Rattle.strip.proofs.Limits.{row_limits}
 use Rattle.row.specs.declared.Part.{Part}
 use Rattle.row.specs.declared.RowOrRefusal.TheVariants.{Holds, Refuses}
@@ -17,6 +18,11 @@ pub rows_in_body : RowsInBody
 rows_in_body s y e =
     let q = row_limits s y e in
     record { start = omega arith; end = omega (arith, q.inside); there = omega (arith, q.strip.head.long) }
+
+-- a row that is there ends before the strip's last word
+pub row_short : (s : List ℕ) (y : ℕ) → check_row s y ≡ Accepted
+    → body_start (header_fields s) + 3 * ((header_fields s).width * y) + 3 * (header_fields s).width < length s
+row_short s y e = let q = rows_in_body s y e in omega (arith, q.end, q.there)
 
 -- a row that is found lies before the strip's last word
 pub found_inside : (s : List ℕ) (y : ℕ) (p : Part) → find_row s y ≡ Holds p → p.start + p.count < length s

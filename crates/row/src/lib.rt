@@ -1,5 +1,6 @@
 // One row of a strip: where it stands, and the row handed back as that part of the strip.
 #![tactic(auto)]
+
 ghost use Rattle.std.specs.Prelude.{◌≡◌};
 ghost use Rattle.row.specs.Rows.{find_row, row_of, words_of, pointer_to, row_told};
 

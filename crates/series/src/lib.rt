@@ -1,5 +1,6 @@
 // Strips one behind another in one lent row of words: where each stands, and its checks there.
 #![tactic(auto)]
+
 ghost use Rattle.std.specs.Prelude.{◌≡◌, ◌≤◌, length};
 ghost use Rattle.series.specs.Series.{front_strip, moved_by, check_standing, strip_at, standing_at};
 ghost use Rattle.series.specs.loops.Walks.{PlacesFit};

@@ -80,6 +80,7 @@ pub fn check(strip: &[u32]) -> Verdict
 }
 
 // Whether an output of so many elements has one for each channel.
+#[tactic(auto, unfolding(refusal::specs::Verdicts::require))]
 fn check_room(strip: &[u32], room: usize) -> Verdict
     ensures { result ≡ require (leb (channel_count strip.now) room) Refusal.SmallOutput 0 Verdict.Accepted }
 {

@@ -11,7 +11,7 @@ loop-k-preserved c =
     record {
       in_range = omega arith;
       moved =
-        c.next.ensures.2 ∙ ap moved_of c.loop-k.invariant.moved ∙ moved_again k r ∙ ap (λ (j : ℕ). moved_by j r) (sym (add-one k));
+          c.next.ensures.2 ∙ ap moved_of c.loop-k.invariant.moved ∙ moved_again k r ∙ ap (λ (j : ℕ). moved_by j r) (sym (add-one k));
     }
 
 pub returns : goal.returns
