@@ -17,6 +17,7 @@ use word::body::{body_start, channel_word};
 use word::header::{Header, end_word, key_fits, key_word, size_fits, size_word, white_word};
 
 // The index of the end word, behind the last channel word, of a page within its limits.
+#[tactic(auto, using(word::proofs::Limits::size_limits, word::proofs::Limits::head_short))]
 pub fn body_end(header: Header) -> usize
     requires { size_fits header.width header.height ≡ true }
     ensures { result ≡ end_index header }
@@ -26,7 +27,7 @@ pub fn body_end(header: Header) -> usize
 }
 
 // The checks of a source of so many elements, and an output of so many words.
-#[tactic(auto, unfolding(crate::specs::Frames::check_frame, refusal::specs::Verdicts::require))]
+#[tactic(auto, using(word::proofs::Limits::size_limits, word::proofs::Limits::head_short), unfolding(crate::specs::Frames::check_frame, refusal::specs::Verdicts::require))]
 pub fn check_frame(header: Header, per: u8, count: usize, room: usize) -> Verdict
     ensures verdict { result ≡ check_frame header per count room }
     ensures outcome { report_of result ≡ report_of (check_frame header per count room) }
@@ -61,6 +62,7 @@ pub fn decoded_word(k: usize, decoded: Decoded) -> u32
 }
 
 // The white word of a page that has a white point, behind the key word.
+#[tactic(auto, using(white::proofs::Limits::white_limits))]
 fn store_white(white: White, output: &mut [u32])
     requires { (white_fits white ≡ true) × (3 ≤ length output.old) }
     ensures { output.new ≡ sets output.old 2 (white_words white) }
@@ -71,6 +73,7 @@ fn store_white(white: White, output: &mut [u32])
 }
 
 // The words around the channels: size, key, white point and end, of a page that was accepted for this output.
+#[tactic(auto, using(word::proofs::Limits::size_limits, word::proofs::Limits::key_limits))]
 pub fn store_frame(header: Header, output: &mut [u32])
     requires { (size_fits header.width header.height ≡ true) × (key_fits header.key ≡ true) × (white_fits header.white ≡ true) × (strip_length header ≤ length output.old) }
     ensures { output.new ≡ with_frame header output.old }
