@@ -6,7 +6,6 @@ use native.Mathlib.Nat.{div-lt_iff_lt-mul, pos_of_ne-zero}
 use native.Mathlib.Omega.{arith}
 use lib.Dec.{eqb, lit<}
 use lib.IntN.{ℤ, pos, sub_ℕ, nat_abs, ◌+ℤ◌}
-use lib.Signed.{◌≤ℤ◌}
 use borrow.Author.Tests.{eqb-true, eqb-false, ne_eqb}
 use Rattle.number.proofs.Laws.{same_difference, sub_pos, sub_plus, sub_least, sub_most, lowered}
 use Rattle.number.specs.declared.ratio.Stored.{Stored}
