@@ -42,6 +42,8 @@ use Rattle.number.proofs.Laws.{
   stored_as,
 }
 use Rattle.number.specs.declared.ratio.Stored.{Stored}
+use Rattle.white.specs.declared.White.TheVariants.{Absent}
+use Rattle.white.specs.Whites.{white_fits}
 use Rattle.tone.specs.Levels.{reinhard, curve_of, display_of}
 use Rattle.tone.specs.Claims.{IsScaled, DarkIsItself, BrightIsWhite}
 use Rattle.luminance.proofs.Products.{power_difference, shift_most}
@@ -138,6 +140,10 @@ dark_is_itself w fits l h = dark (curve_of w) (curve_ratio w fits) (curve_betwee
 
 -- ---- L/(1+L)
 
+pub plain_dark : (l : Stored) → l.exponent < 114 → IsScaled l → l ≡ display_of reinhard l
+unfolding white_fits
+plain_dark l h s = sym (dark_is_itself Absent refl l h s.mantissa)
+
 -- A bright one is white; for e = 136 and M = 254 the mantissa is 254.
 pub bright : (l : Stored) → 136 < l.exponent → IsMantissa l.mantissa
     → display_of reinhard l ≡ record { exponent = 128; mantissa = 255 }
@@ -154,6 +160,9 @@ bright l h m =
 
     white : (C w : ℕ) → 0 < C → 255 * C ≤ w → Normalised (w * 1) ((C + w) * 1) 255
     white C w p g = cell (omega arith) (omega arith) (omega arith) (omega arith)
+
+pub plain_bright : (l : Stored) → 152 < l.exponent → IsScaled l → record { exponent = 128; mantissa = 255 } ≡ display_of reinhard l
+plain_bright l h s = sym (bright l (omega arith) s.mantissa)
 
 pub bright_is_white : BrightIsWhite
 bright_is_white l h = bright l (omega arith)

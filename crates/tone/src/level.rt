@@ -55,6 +55,7 @@ fn divided(value: u64, exponent: u64) -> Stored
 // (i) 136 - E > 22, that is E below 114; (ii) 136 - E < -16, E above 152; (iii) between. What 004 leaves out of the denominator in (i) and
 // (ii) makes no difference to what is stored, L itself and (128,255). In (iii) it approximates, in fixed point of 32 bits; here the quotient
 // is exact.
+#[tactic(auto, using(crate::proofs::Displays::plain_dark, crate::proofs::Displays::plain_bright))]
 fn plain_display(scaled: Stored) -> Stored
     requires { IsScaled scaled }
     ensures { result ≡ display_of reinhard scaled }
