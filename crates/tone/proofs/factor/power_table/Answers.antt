@@ -1,9 +1,7 @@
--- `tone::factor::power_table` meets its contract. The invariant of its loop: the entries below i are filled, and `power` is the one at i.
-use mathlib.Core.Path.{◌≡◌, refl, sym, ◌∙◌}
-use Prim.Native.Nat.{◌-◌, ◌≤◌}
+-- `tone::factor::power_table` meets its contract. Assumes nothing.
+use mathlib.Core.Path.{refl, sym, ◌∙◌}
 use native.Mathlib.Omega.{arith}
 use lib.ListN.{get_or-replicate}
-use Rattle.number.proofs.Laws.{Filled, filled_next}
 use Rattle.tone.specs.loops.Factors.{power_at}
 use Rattle.tone.proofs.Powers.{power_below}
 use Rattle.tone.proofs.factor.power_table.Goals as goal

@@ -1,11 +1,8 @@
--- What the loop keeps to.
-use mathlib.Core.Path.{◌≡◌, refl, sym, ◌∙◌}
+-- What the loop keeps to: the entries below i are filled, and `power` is the one at i.
+use mathlib.Core.Path.{◌≡◌}
 use Prim.Native.Nat.{◌-◌, ◌≤◌}
-use native.Mathlib.Omega.{arith}
-use lib.ListN.{get_or-replicate}
-use Rattle.number.proofs.Laws.{Filled, filled_next}
+use Rattle.number.proofs.Laws.{Filled}
 use Rattle.tone.specs.loops.Factors.{power_at}
-use Rattle.tone.proofs.Powers.{power_below}
 use Rattle.tone.proofs.factor.power_table.Given as goal
 
 abbrev pub invariant-loop-i : goal.invariant-loop-i

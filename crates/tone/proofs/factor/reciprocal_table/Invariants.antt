@@ -1,8 +1,7 @@
--- What the loop keeps to.
-use mathlib.Core.Path.{◌≡◌, refl}
+-- What the loop keeps to: the entries below k are filled.
+use mathlib.Core.Path.{◌≡◌}
 use Prim.Native.Nat.{◌+◌, ◌-◌, ◌≤◌}
-use native.Mathlib.Omega.{arith}
-use Rattle.number.proofs.Laws.{Filled, filled_none, filled_next}
+use Rattle.number.proofs.Laws.{Filled}
 use Rattle.tone.specs.loops.Factors.{reciprocal_of}
 use Rattle.tone.proofs.factor.reciprocal_table.Given as goal
 

@@ -1,6 +1,5 @@
 -- `tone::level::scaled_luminance` meets its contract. Assumes nothing.
 use mathlib.Core.Path.{◌∙◌}
-use native.Mathlib.Omega.{arith}
 use Rattle.luminance.proofs.Storables.{stored_in_law}
 use Rattle.tone.proofs.Scaled.{scaled_storable, scaled_stored}
 use Rattle.tone.proofs.level.scaled_luminance.Goals as goal

@@ -1,6 +1,6 @@
 -- `tone::level::white_divided` meets its contract. Assumes nothing.
 use mathlib.Core.Path.{◌∙◌, ap}
-use Prim.Native.Nat.{ℕ, ◌*◌, ◌^◌}
+use Prim.Native.Nat.{ℕ}
 use native.Mathlib.Omega.{arith}
 use Rattle.number.proofs.Laws.{◌over◌, unit, stored_of}
 use Rattle.tone.specs.Levels.{white_point}
