@@ -1,8 +1,7 @@
 -- What the loop keeps to.
-use Rattle.std.proofs.Common.{◌-◌, get_or, arith, rules}
-use Rattle.number.proofs.Laws.{Filled, filled_none, filled_next}
+use Rattle.std.proofs.Common.{◌-◌, get_or}
+use Rattle.number.proofs.Laws.{Filled}
 use Rattle.luminance.specs.loops.Codes.{IsNear}
-use Rattle.luminance.proofs.Laws.{is_near}
 use Rattle.body.proofs.near.code_indices.Given as goal
 
 abbrev pub invariant-loop-j : goal.invariant-loop-j

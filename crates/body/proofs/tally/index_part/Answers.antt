@@ -1,5 +1,5 @@
 -- `body::tally::index_part` meets its contract: at each turn the sums and the indices are those of the pixels so far. Assumes nothing.
-use Rattle.std.proofs.Common.{◌≡◌, ℕ, ◌+◌, ◌*◌, ◌%◌, ◌<◌, ◌≤◌, ◌⊎◌, List, length, get_or, set, replicate, sym, refl, ap, ◌∙◌, ap₂, inl, inr, arith, ne_eqb}
+use Rattle.std.proofs.Common.{◌≡◌, ℕ, ◌+◌, ◌*◌, ◌%◌, ◌<◌, ◌⊎◌, List, length, get_or, set, replicate, sym, refl, ap, ◌∙◌, ap₂, inl, inr, arith, ne_eqb}
 use lib.Seq.{sets, length-sets}
 use Rattle.word.specs.loops.Walks.{pixel_at}
 use Rattle.luminance.specs.loops.Codes.{index_count}
@@ -20,8 +20,8 @@ use Rattle.body.proofs.tally.index_part.Goals.{else-all-output, else-index-eq0, 
 near : (c : Joined-words) → NearIndices c.args.words.now c.if-words.indices
 near c =
     elim c.if-words.branch [
-      then-words w ↦ rw w.indices-is w.near_indices.ensures
-    | else-words w ↦ rw (w.indices-is, c.requires.6) (none_near _)
+      | then-words w ↦ rw w.indices-is w.near_indices.ensures
+      | else-words w ↦ rw (w.indices-is, c.requires.6) (none_near _)
     ]
 
 from : (c : Joined-words) → (length c.args.words.now ≡ 48) ⊎ (c.if-words.indices ≡ replicate 16 0)
@@ -61,31 +61,31 @@ settled c n =
     let inside = c.loop-p-test.true in
     let ws = c.args.words.now in
     elim c.if-index-eq0.branch [
-      then-index-eq0 w ↦
-        let x = w.luminance_index-index.result in
-        let index : x ≡ pixel_index (pixel_at ws l.p) =
-        rw (w.low_half.ensures, w.low_half-then-index-eq0.ensures, w.low_half-then-index-eq0-2.ensures) at w.luminance_index-index.ensures in
-        record {
-          index = w.index-is ∙ index;
-          indices = w.indices-is ∙ ap (λ r. set r l.p x) inv.2 ∙ noted_next ws l.p inside index _;
-          unlit =
-              w.unlit-is ∙ w.with_unlit-unlit.ensures ∙ ap (λ u. u + unlit_at x) inv.3 ∙ summing_next ws l.p inside index unlit_at;
-        }
-    | else-index-eq0 w ↦
-        let k = pixel_codes ws c.requires.3 l.p inside in
-        let x = c.wide_index-index.result in
-        let read : x ≡ get_or l.indices l.p 0 = c.wide_index-index.ensures in
-        let here : x ≡ get_or c.if-words.indices l.p 0 =
-        read ∙ ap (λ r. get_or r l.p 0) inv.2 ∙ noted_at ws l.p inside _ n.long c.requires.4 in
-        let index : x ≡ pixel_index (pixel_at ws l.p) =
-        here
-        ∙ (n.near l.p (omega (arith, inside, c.requires.4))).right k.0 k.1 k.2 (λ e. w.if-index-eq0.false (ap (λ i. i % 128) here ∙ e)) in
-        let lit : unlit_at x ≡ 0 = rw (ne_eqb x 0 (λ e. w.if-index-eq0.false (ap (λ i. i % 128) e))) in
-        record {
-          index = w.index-is ∙ index;
-          indices = w.indices-is ∙ inv.2 ∙ noted_same ws l.p inside index _ (ap (λ r. get_or r l.p 0) (sym inv.2) ∙ sym read);
-          unlit = w.unlit-is ∙ inv.3 ∙ omega (arith, lit, summing_next ws l.p inside index unlit_at);
-        }
+      | then-index-eq0 w ↦
+          let x = w.luminance_index-index.result in
+          let index : x ≡ pixel_index (pixel_at ws l.p) =
+          rw (w.low_half.ensures, w.low_half-then-index-eq0.ensures, w.low_half-then-index-eq0-2.ensures) at w.luminance_index-index.ensures in
+          record {
+            index = w.index-is ∙ index;
+            indices = w.indices-is ∙ ap (λ r. set r l.p x) inv.2 ∙ noted_next ws l.p inside index _;
+            unlit =
+                w.unlit-is ∙ w.with_unlit-unlit.ensures ∙ ap (λ u. u + unlit_at x) inv.3 ∙ summing_next ws l.p inside index unlit_at;
+          }
+      | else-index-eq0 w ↦
+          let k = pixel_codes ws c.requires.3 l.p inside in
+          let x = c.wide_index-index.result in
+          let read : x ≡ get_or l.indices l.p 0 = c.wide_index-index.ensures in
+          let here : x ≡ get_or c.if-words.indices l.p 0 =
+          read ∙ ap (λ r. get_or r l.p 0) inv.2 ∙ noted_at ws l.p inside _ n.long c.requires.4 in
+          let index : x ≡ pixel_index (pixel_at ws l.p) =
+          here
+          ∙ (n.near l.p (omega (arith, inside, c.requires.4))).right k.0 k.1 k.2 (λ e. w.if-index-eq0.false (ap (λ i. i % 128) here ∙ e)) in
+          let lit : unlit_at x ≡ 0 = rw (ne_eqb x 0 (λ e. w.if-index-eq0.false (ap (λ i. i % 128) e))) in
+          record {
+            index = w.index-is ∙ index;
+            indices = w.indices-is ∙ inv.2 ∙ noted_same ws l.p inside index _ (ap (λ r. get_or r l.p 0) (sym inv.2) ∙ sym read);
+            unlit = w.unlit-is ∙ inv.3 ∙ omega (arith, lit, summing_next ws l.p inside index unlit_at);
+          }
     ]
 
 pub store_index-requires : goal.store_index-requires
@@ -119,18 +119,18 @@ loop-p-preserved c =
     let done = settled at.Joined-index-eq0 (near at.Joined-words) in
     let raised = more at.After-raised_steps-raised done.index in
     elim c.if-all-output.branch [
-      then-all-output w ↦
-        let stored = w.output-is ∙ w.store_index.ensures in (
-          rw stored (length-sets l.output (c.args.at + 3 * l.p) (index_bytes x) ∙ inv.0),
-          λ fits.
-              stored ∙ ap (λ u. sets u (c.args.at + 3 * l.p) (index_bytes x)) (inv.1 fits) ∙ indexed_next _ _ inside done.index _ _,
-          done.indices,
-          done.unlit,
-          raised,
-          omega arith,
-        )
-    | else-all-output w ↦
-        (rw w.output-is inv.0, λ fits. absurd (omega (arith, w.if-all-output.false, inv.0, fits)), done.indices, done.unlit, raised, omega arith)
+      | then-all-output w ↦
+          let stored = w.output-is ∙ w.store_index.ensures in (
+            rw stored (length-sets l.output (c.args.at + 3 * l.p) (index_bytes x) ∙ inv.0),
+            λ fits.
+                stored ∙ ap (λ u. sets u (c.args.at + 3 * l.p) (index_bytes x)) (inv.1 fits) ∙ indexed_next _ _ inside done.index _ _,
+            done.indices,
+            done.unlit,
+            raised,
+            omega arith,
+          )
+      | else-all-output w ↦
+          (rw w.output-is inv.0, λ fits. absurd (omega (arith, w.if-all-output.false, inv.0, fits)), done.indices, done.unlit, raised, omega arith)
     ]
 
 pub returns-clause-sums : goal.returns-clause-sums

@@ -130,5 +130,5 @@ returns-clause-content c =
     let ws = c.args.words.now in
     let long = length_indices (word_pixels ws) ∙ ap (λ n. 3 * n) (length_word_pixels ws) in
     λ fits.
-        c.loop-p.invariant.1 fits ∙ indexed_all ws _ c.loop-p-test.false _ _
-        ∙ sets_front (indices_of (word_pixels ws)) c.args.output.now (omega (arith, fits, long))
+    c.loop-p.invariant.1 fits ∙ indexed_all ws _ c.loop-p-test.false _ _
+    ∙ sets_front (indices_of (word_pixels ws)) c.args.output.now (omega (arith, fits, long))
