@@ -1,17 +1,13 @@
 -- The cases of a step's answer and of the position after it. Assumes nothing.
-use Prim.Native.Nat.{ℕ, ◌+◌, ◌<◌}
-use mathlib.Core.Bool.{true, false, and-eq-true_iff}
+use Prim.Native.Nat.{ℕ, ◌+◌}
+use mathlib.Core.Bool.{true, false}
 use mathlib.Core.Path.{◌≡◌}
 use mathlib.Core.List.{List}
-use borrow.Author.Tests.{ltb-true, ne_eqb}
+use borrow.Author.Tests.{ne_eqb}
 use lib.ListN.{length}
-use lib.Dec.{ltb}
 use Rattle.strip.specs.Checks.{check_strip}
 use Rattle.reader.specs.declared.Step.TheVariants.{Pixel, PageOver}
 use Rattle.reader.specs.Steps.{pixel_begins, pixel_from, step_under, step_at, position_after}
-
-pub pixel_inside : (n p : ℕ) → pixel_begins n p ≡ true → p + 3 < n
-pixel_inside n p e = ltb-true _ _ ((and-eq-true_iff (ltb 0 p) _).0 e).1
 
 module _ (s : List ℕ) (p : ℕ) where
   -- where a pixel begins

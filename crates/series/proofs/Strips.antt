@@ -4,13 +4,12 @@ use mathlib.Core.Path.{◌≡◌, refl, ap, ◌∙◌}
 use mathlib.Core.List.{List, [], ◌∷◌, ◌++◌}
 use native.Mathlib.Omega.{arith}
 use lib.ListN.{length, take, drop, length-take, length-drop, length-append, drop_of_length-le}
-use lib.Seq.{drop-drop, drop-nil, take_all, take_at, drop_at}
+use lib.Seq.{drop-drop, drop-nil, take_at, drop_at}
 use Rattle.refusal.specs.declared.Verdict.{Verdict}
 use Rattle.refusal.specs.declared.Verdict.TheVariants.{Accepted, Refused}
 use Rattle.word.specs.Words.{strip_length}
 use Rattle.word.proofs.Limits.{head_short, pixels_small}
 use Rattle.strip.specs.Checks.{word_at, header_fields, declared_length, check_strip}
-use Rattle.strip.proofs.Bodies.{part_within}
 use Rattle.strip.proofs.Places.{place_within}
 use Rattle.series.specs.Series.{Standing, front_strip, strips_from, moved_by, check_standing, strip_at, standing_at}
 use Rattle.series.specs.loops.Walks.{series_from, PlacesFit}
@@ -66,25 +65,6 @@ module _ (r : List ℕ) (i : ℕ) where
       let n = length-drop i r in
       let m = front_length (drop i r) in
       (omega arith, omega arith)
-
-  -- as the code takes it out of the row: `count` is worked out from all that lies behind the index
-  module _ {count : ℕ} (h : i ≤ length r) (e : count ≡ length (front_strip (take (length r - i) (drop i r)))) where
-    counted : count ≡ min (declared_length (drop i r)) (length (drop i r))
-    counted =
-        let n = length-drop i r in
-        let rest = take_all (length r - i) (drop i r) (omega arith) in
-        e ∙ ap (λ ws. length (front_strip ws)) rest ∙ front_length (drop i r)
-
-    pub front_within : i + count ≤ length r
-    front_within = omega (arith, counted, length-drop i r)
-
-    pub strip_part : take (i + count - i) (drop i r) ≡ strip_at r i
-    strip_part =
-        let n = declared_length (drop i r) in
-        let l = length (drop i r) in
-        let front : min 0 l ≡ 0 = omega arith in
-        let same : i + count - i ≡ min (0 + n) l - 0 = omega (arith, counted) in
-        ap (λ k. take k (drop i r)) same ∙ (rw front at (part_within (drop i r) 0 n))
 
   -- no place overflows: a refused strip names a word up to where its end word should stand
   pub places_fit : i ≤ length r → length r * 4 < 2 ^ 63 → PlacesFit i (check_strip (strip_at r i))

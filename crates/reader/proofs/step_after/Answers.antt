@@ -1,5 +1,5 @@
 -- A turn is one step more, and the step after those has the answer of its number. Assumes nothing.
-use Rattle.std.proofs.Common.{◌≡◌, ℕ, sym, ap, ◌∙◌, add-one, le_antisymm, arith}
+use Rattle.std.proofs.Common.{◌≡◌, ℕ, sym, ap, ◌∙◌, add-one, arith}
 use Rattle.reader.specs.Steps.{step_of, moved_of}
 use Rattle.reader.proofs.Numbers.{moved_by, moved_again, number_of}
 use Rattle.reader.proofs.step_after.Goals as goal

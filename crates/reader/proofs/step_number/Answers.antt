@@ -1,5 +1,5 @@
 -- The steps that are taken make all the difference. Assumes nothing.
-use Rattle.std.proofs.Common.{◌≡◌, ap, ◌∙◌}
+use Rattle.std.proofs.Common.{ap, ◌∙◌}
 use Rattle.reader.specs.Steps.{step_told, step_number}
 use Rattle.reader.proofs.Numbers.{same_number}
 use Rattle.reader.proofs.step_number.Goals as goal

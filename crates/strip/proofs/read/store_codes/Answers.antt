@@ -1,12 +1,10 @@
 -- `strip::read::store_codes` meets its contract: at each turn the stores that are left give the whole. Assumes nothing.
-use Prim.Native.Nat.{◌-◌}
-use mathlib.Core.Path.{◌≡◌, refl, sym, ◌∙◌}
+use mathlib.Core.Path.{refl, sym, ◌∙◌}
 use mathlib.Core.List.{map}
-use lib.ListN.{length, length-map, get_or-map}
+use lib.ListN.{length-map, get_or-map}
 use Rattle.word.specs.Fields.{low16}
-use Rattle.refusal.specs.Output.{onto}
 use Rattle.refusal.proofs.Outputs.{sets_front}
-use Rattle.word.proofs.Walks.{storing, storing_all, storing_next, storing_done}
+use Rattle.word.proofs.Walks.{storing_all, storing_next, storing_done}
 use Rattle.strip.proofs.read.store_codes.Goals as goal
 
 pub loop-i-init : goal.loop-i-init

@@ -1,12 +1,11 @@
 -- What the loop keeps to.
 use Prim.Native.Nat.{◌-◌}
-use mathlib.Core.Path.{◌≡◌, refl, sym, ◌∙◌}
+use mathlib.Core.Path.{◌≡◌}
 use mathlib.Core.List.{map}
-use lib.ListN.{length, length-map, get_or-map}
+use lib.ListN.{length}
 use Rattle.word.specs.Fields.{low16}
 use Rattle.refusal.specs.Output.{onto}
-use Rattle.refusal.proofs.Outputs.{sets_front}
-use Rattle.word.proofs.Walks.{storing, storing_all, storing_next, storing_done}
+use Rattle.word.proofs.Walks.{storing}
 use Rattle.strip.proofs.read.store_codes.Given as goal
 
 abbrev pub invariant-loop-i : goal.invariant-loop-i

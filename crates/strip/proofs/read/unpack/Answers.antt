@@ -1,5 +1,5 @@
 -- A refusal comes before the first store, and what is stored is `strip_codes`. Assumes nothing.
-use Rattle.std.proofs.Common.{◌≡◌, length, sym, ap, ◌∙◌, arith}
+use Rattle.std.proofs.Common.{length, sym, ap, ◌∙◌, arith}
 use Rattle.refusal.specs.Output.{onto}
 use Rattle.strip.proofs.Limits.{output_limits, length_body}
 use Rattle.strip.proofs.Bodies.{codes_in}
