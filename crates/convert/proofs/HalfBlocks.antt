@@ -1,14 +1,9 @@
 -- Loops over halves, and over the 48 of a block. Assumes nothing.
 use Rattle.std.proofs.Common.{◌≡◌, ℕ, ◌+◌, ◌%◌, ◌<◌, ◌≤◌, List, length, get_or, set, refl, arith}
-use Rattle.number.specs.declared.channel.Decoded.{Decoded}
-use Rattle.number.specs.declared.channel.Decoded.TheVariants.{Holds, Refuses}
-use Rattle.number.specs.Channels.{code_of, channel_in}
-use Rattle.number.specs.Sources.{channel_of_value, half_value}
 use Rattle.number.specs.loops.Halves.{half_code}
-use Rattle.number.proofs.Laws.{half_valid, half_finite}
+use Rattle.number.proofs.Laws.{half_finite}
 use Rattle.refusal.specs.declared.Verdict.{Verdict}
 use Rattle.word.specs.Words.{channel_word}
-use Rattle.word.proofs.Decoding.{code_small}
 use Rattle.word.proofs.Walks.{checking, checking_next, writing_next}
 use Rattle.word.specs.loops.Walks.{writing}
 use Rattle.convert.specs.Formats.{half_element}
@@ -21,14 +16,6 @@ finite_next xs k most next inv inside h small =
     checking_next _ _ xs k (inv (omega arith)) inside refl (half_finite (get_or xs k 0) (omega arith))
 
 -- ---- a loop that stores a block
-
--- the 16-bit form of a channel has 16 bits
-pub half_code_small : (b : ℕ) → half_code b < 65536
-half_code_small b = go (channel_of_value (half_value b)) refl
-  where
-    go : (d : Decoded) → channel_of_value (half_value b) ≡ d → code_of (channel_in d) < 65536
-    go (Holds c) e = code_small c (half_valid c b e)
-    go (Refuses r) e = omega arith
 
 pub block_next : (xs : List ℕ) (start j : ℕ) (t : List ℕ) {n w : ℕ} {u : List ℕ}
     → (j ≤ 48) × (length t ≡ n) × (writing half_element xs (start + j) t ≡ u) → start + 48 ≤ length xs → j < 48

@@ -1,5 +1,6 @@
 // Source pictures into strips: RGBE, half and single floats, and stored channels.
 #![tactic(auto)]
+
 pub mod half;
 mod half_blocks;
 pub mod rgbe;

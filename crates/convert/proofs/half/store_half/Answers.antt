@@ -1,6 +1,5 @@
 -- `convert::half::store_half` meets its contract: at each turn the words that are left give the whole. Assumes nothing.
-use Rattle.std.proofs.Common.{◌≡◌, ◌-◌, ◌%◌, ◌≤◌, length, refl, ◌∙◌, le_refl, arith, rules}
-use Rattle.word.specs.loops.Walks.{writing}
+use Rattle.std.proofs.Common.{refl, ◌∙◌, le_refl}
 use Rattle.convert.specs.Formats.{half_element}
 use Rattle.word.proofs.Walks.{writing_all, writing_done}
 use Rattle.convert.proofs.half.store_half.Goals as goal

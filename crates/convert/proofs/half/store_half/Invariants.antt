@@ -1,8 +1,7 @@
--- What the loop keeps to.
-use Rattle.std.proofs.Common.{◌≡◌, ◌-◌, ◌%◌, ◌≤◌, length, refl, ◌∙◌, le_refl, arith, rules}
+-- The words that are left give the same body as all; `start` is a whole number of pixels.
+use Rattle.std.proofs.Common.{◌≡◌, ◌-◌, ◌%◌, ◌≤◌, length}
 use Rattle.word.specs.loops.Walks.{writing}
 use Rattle.convert.specs.Formats.{half_element}
-use Rattle.word.proofs.Walks.{writing_all, writing_done}
 use Rattle.convert.proofs.half.store_half.Given as goal
 
 abbrev pub invariant-loop-start : goal.invariant-loop-start

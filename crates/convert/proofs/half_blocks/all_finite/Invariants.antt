@@ -1,9 +1,8 @@
--- What the loop keeps to.
-use Rattle.std.proofs.Common.{◌≡◌, ◌-◌, ◌<◌, length, sym, rules, ltb-true}
+-- While `most` is small, the verdict on the elements that are left is that on all.
+use Rattle.std.proofs.Common.{◌≡◌, ◌-◌, ◌<◌, length}
 use Rattle.word.specs.Placing.{first_refusal}
-use Rattle.word.proofs.Walks.{checking, checking_all, checking_done}
+use Rattle.word.proofs.Walks.{checking}
 use Rattle.convert.specs.Formats.{half, half_element, decoded_source}
-use Rattle.convert.proofs.HalfBlocks.{finite_next}
 use Rattle.convert.proofs.half_blocks.all_finite.Given as goal
 
 abbrev pub invariant-loop-k : goal.invariant-loop-k

@@ -1,5 +1,5 @@
--- What the loop keeps to.
-use Rattle.std.proofs.Common.{ℕ, ◌+◌, ◌-◌, ◌%◌, ◌<◌, ◌≤◌, get_or, arith, rules, below_more, leb-true}
+-- `least` is at most one less than each half so far.
+use Rattle.std.proofs.Common.{ℕ, ◌+◌, ◌-◌, ◌%◌, ◌<◌, ◌≤◌, get_or}
 use Rattle.convert.proofs.half_blocks.is_plain.Given as goal
 
 abbrev pub invariant-loop-j : goal.invariant-loop-j

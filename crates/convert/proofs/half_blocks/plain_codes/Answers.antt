@@ -1,7 +1,6 @@
 -- `convert::half_blocks::plain_codes` meets its contract. Assumes nothing.
-use Rattle.std.proofs.Common.{◌≡◌, ◌+◌, ◌-◌, get_or, ◌∙◌, arith, rules}
-use Rattle.number.specs.loops.Halves.{half_code}
-use Rattle.number.proofs.Laws.{Filled, filled_none, filled_next, plain_half}
+use Rattle.std.proofs.Common.{◌∙◌}
+use Rattle.number.proofs.Laws.{filled_next, plain_half}
 use Rattle.convert.proofs.half_blocks.plain_codes.Goals as goal
 
 pub loop-j-preserved : goal.loop-j-preserved

@@ -1,7 +1,7 @@
--- What the loop keeps to.
-use Rattle.std.proofs.Common.{◌≡◌, ◌+◌, ◌-◌, get_or, ◌∙◌, arith, rules}
+-- The codes so far are those of the halves.
+use Rattle.std.proofs.Common.{◌≡◌, ◌+◌, ◌-◌, get_or}
 use Rattle.number.specs.loops.Halves.{half_code}
-use Rattle.number.proofs.Laws.{Filled, filled_none, filled_next, plain_half}
+use Rattle.number.proofs.Laws.{Filled}
 use Rattle.convert.proofs.half_blocks.plain_codes.Given as goal
 
 abbrev pub invariant-loop-j : goal.invariant-loop-j

@@ -1,6 +1,5 @@
 -- `convert::half_blocks::store_each` meets its contract. Assumes nothing.
-use Rattle.std.proofs.Common.{◌≡◌, ◌-◌, ◌≤◌, length, refl, arith, rules}
-use Rattle.word.specs.loops.Walks.{writing}
+use Rattle.std.proofs.Common.{refl, arith}
 use Rattle.convert.specs.Formats.{half_element}
 use Rattle.word.proofs.Walks.{writing_next}
 use Rattle.convert.proofs.half_blocks.store_each.Goals as goal

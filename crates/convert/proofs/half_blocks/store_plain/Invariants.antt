@@ -1,13 +1,13 @@
--- What the loop keeps to.
-use Rattle.std.proofs.Common.{◌≡◌, ◌+◌, ◌-◌, ◌<◌, ◌≤◌, length, get_or, refl, arith, rules}
-use Rattle.word.proofs.BlockKinds.{kind_at}
+-- The words that are left give the same body as all.
+use Rattle.std.proofs.Common.{◌≡◌, ◌+◌, ◌-◌, ◌≤◌, length}
 use Rattle.word.specs.loops.Walks.{writing}
 use Rattle.convert.specs.Formats.{half_element}
-use Rattle.convert.proofs.HalfBlocks.{half_code_small, block_next}
 use Rattle.convert.proofs.half_blocks.store_plain.Given as goal
 
 abbrev pub invariant-loop-j : goal.invariant-loop-j
-invariant-loop-j l = (l.j ≤ 48) × (length l.body ≡ length l.initial.body) × (writing half_element l.source (l.start + l.j) l.body ≡ writing half_element l.source l.start l.initial.body)
+invariant-loop-j l =
+    (l.j ≤ 48) × (length l.body ≡ length l.initial.body)
+    × (writing half_element l.source (l.start + l.j) l.body ≡ writing half_element l.source l.start l.initial.body)
 
 abbrev pub decreases-loop-j : goal.decreases-loop-j
 decreases-loop-j l = 48 - l.j

@@ -1,8 +1,8 @@
--- What the loop keeps to.
-use Rattle.std.proofs.Common.{◌≡◌, ◌-◌, arith, rules}
+-- The verdict on the pixels that are left is that on all.
+use Rattle.std.proofs.Common.{◌≡◌, ◌-◌}
 use Rattle.word.specs.Placing.{first_refusal}
 use Rattle.convert.specs.Formats.{rgbe, decoded_source}
-use Rattle.convert.proofs.Pixels.{left, left_all, pixels_next, pixels_refused, pixels_done}
+use Rattle.convert.proofs.Pixels.{left}
 use Rattle.convert.proofs.rgbe.check_rgbe.Given as goal
 
 abbrev pub invariant-loop-p : goal.invariant-loop-p

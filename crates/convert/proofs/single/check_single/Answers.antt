@@ -1,8 +1,7 @@
 -- `convert::single::check_single` meets its contract: at each turn the verdict on the elements that are left is that on all.
-use Rattle.std.proofs.Common.{◌≡◌, ◌-◌, length, zero-add, rules}
-use Rattle.word.specs.Placing.{first_refusal}
-use Rattle.word.proofs.Walks.{checking, checking_all, checking_next, checking_refused, checking_done}
-use Rattle.convert.specs.Formats.{single, single_element, decoded_source}
+use Rattle.std.proofs.Common.{zero-add}
+use Rattle.word.proofs.Walks.{checking_all, checking_next, checking_refused, checking_done}
+use Rattle.convert.specs.Formats.{single_element}
 use Rattle.convert.proofs.single.check_single.Goals as goal
 
 pub loop-k-init : goal.loop-k-init
@@ -14,9 +13,7 @@ returns-in_default c =
     c.verdict_at.ensures.verdict c.in_default.is
 
 pub loop-k-preserved : goal.loop-k-preserved
-loop-k-preserved c =
-    checking_next _ _ _ _ c.loop-k.invariant c.loop-k-test.true c.single_to_channel-decoded.ensures.answer c.in-Holds.is
+loop-k-preserved c = checking_next _ _ _ _ c.loop-k.invariant c.loop-k-test.true c.single_to_channel-decoded.ensures.answer c.in-Holds.is
 
 pub returns : goal.returns
-returns c =
-    checking_done _ _ _ _ c.loop-k.invariant c.loop-k-test.false
+returns c = checking_done _ _ _ _ c.loop-k.invariant c.loop-k-test.false

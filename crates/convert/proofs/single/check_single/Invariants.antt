@@ -1,7 +1,7 @@
--- What the loop keeps to.
-use Rattle.std.proofs.Common.{◌≡◌, ◌-◌, length, zero-add, rules}
+-- The verdict on the elements that are left is that on all.
+use Rattle.std.proofs.Common.{◌≡◌, ◌-◌, length}
 use Rattle.word.specs.Placing.{first_refusal}
-use Rattle.word.proofs.Walks.{checking, checking_all, checking_next, checking_refused, checking_done}
+use Rattle.word.proofs.Walks.{checking}
 use Rattle.convert.specs.Formats.{single, single_element, decoded_source}
 use Rattle.convert.proofs.single.check_single.Given as goal
 

@@ -1,7 +1,7 @@
 -- `convert::single::convert_single` meets its contract: a refusal comes before the first store, and the stores make the strip.
-use Rattle.std.proofs.Common.{length, sym, ◌∙◌, arith}
+use Rattle.std.proofs.Common.{sym, ◌∙◌, arith}
 use Rattle.convert.specs.Formats.{single}
-use Rattle.frame.proofs.Frames.{Page, page}
+use Rattle.frame.proofs.Frames.{page}
 use Rattle.convert.proofs.Pages.{page_refused, element_refused, accepted}
 use Rattle.convert.proofs.single.convert_single.Goals as goal
 
@@ -12,7 +12,8 @@ returns-in_default c =
 
 pub returns-in_default-channels : goal.returns-in_default-channels
 returns-in_default-channels c =
-    let p = element_refused single _ _ _ c.check_frame-page.ensures.verdict c.in-Accepted.is c.check_single-channels.ensures c.in_default-channels.is in
+    let p = element_refused single _ _ _ c.check_frame-page.ensures.verdict c.in-Accepted.is
+        c.check_single-channels.ensures c.in_default-channels.is in
     record { verdict = p.0; outcome = p.1.0; content = p.1.1 }
 
 pub body_end-end-requires : goal.body_end-end-requires
@@ -30,5 +31,7 @@ store_frame-requires c =
 
 pub returns : goal.returns
 returns c =
-    let p = accepted single _ _ _ c.check_frame-page.ensures.verdict c.in-Accepted.is c.check_single-channels.ensures c.in-Accepted-channels.is c.body_start-start.ensures c.body_end-end.ensures c.store_single.ensures c.store_frame.ensures in
+    let p = accepted single _ _ _ c.check_frame-page.ensures.verdict c.in-Accepted.is
+        c.check_single-channels.ensures c.in-Accepted-channels.is
+        c.body_start-start.ensures c.body_end-end.ensures c.store_single.ensures c.store_frame.ensures in
     record { verdict = p.0; outcome = p.1.0; content = p.1.1 }

@@ -1,10 +1,7 @@
 -- `convert::stored::store_stored` meets its contract: at each turn the words that are left give the whole. Assumes nothing.
-use Rattle.std.proofs.Common.{◌≡◌, ◌-◌, length, refl, rules}
-use Rattle.word.specs.Words.{body_words}
-use Rattle.word.specs.Placing.{channels_of}
+use Rattle.std.proofs.Common.{refl}
 use Rattle.word.proofs.Walks.{writing_all, writing_next, writing_done}
-use Rattle.word.specs.loops.Walks.{writing}
-use Rattle.convert.specs.Formats.{stored, stored_element, decoded_source}
+use Rattle.convert.specs.Formats.{stored_element}
 use Rattle.convert.proofs.stored.store_stored.Goals as goal
 
 pub loop-k-init : goal.loop-k-init
@@ -15,5 +12,4 @@ loop-k-preserved c =
     writing_next _ _ _ c.loop-k.body c.loop-k.invariant c.loop-k-test.true c.code_to_channel.ensures.answer c.decoded_word.ensures
 
 pub returns : goal.returns
-returns c =
-    writing_done _ _ _ _ c.loop-k.invariant c.loop-k-test.false
+returns c = writing_done _ _ _ _ c.loop-k.invariant c.loop-k-test.false
