@@ -1,6 +1,5 @@
 -- Words that hold a channel of their kind. Assumes nothing.
-use Rattle.std.proofs.Common.{◌≡◌, ℕ, zero, suc, ◌+◌, ◌*◌, ◌/◌, ◌%◌, ◌^◌, ◌<◌, ◌≤◌, List, length, get_or, sym, refl, ap, ◌∙◌, subst, le_refl, add-one, arith}
-use native.Mathlib.Decide.{dec_lt}
+use Rattle.std.proofs.Common.{◌≡◌, ℕ, zero, suc, ◌+◌, ◌/◌, ◌%◌, ◌^◌, ◌<◌, ◌≤◌, List, length, sym, refl, ap, ◌∙◌, le_refl, add-one, arith}
 use lib.Bits.{bit_or, or_add_and, and_le_l, and_le_r, or_shr, or_mod}
 use Rattle.number.specs.declared.channel.Channel.{Channel}
 use Rattle.number.specs.declared.channel.Channel.TheVariants.{Black, Lit}
@@ -14,7 +13,7 @@ use Rattle.word.specs.Pixels.{word_channel}
 use Rattle.word.proofs.Decoding.{word_read}
 use Rattle.word.proofs.Pixels.{word_channel_law}
 use Rattle.word.proofs.Walks.{checking, checking_all, checking_next, checking_done}
-use Rattle.channels.specs.loops.Holding.{NoFault, HoldsKind, AllHold, QuartersHold}
+use Rattle.channels.specs.loops.Holding.{NoFault, HoldsKind, AllHold}
 
 -- the word of a channel holds it
 word_holds : (k w : ℕ) (c : Channel) → IsChannel c → w ≡ channel_word k (code_of c) → decode_word k w ≡ Holds (word_channel w)

@@ -1,5 +1,6 @@
 // Channel words checked, many at a time. What they stand in is not known here.
 #![tactic(auto)]
+
 ghost use Rattle.std.specs.Prelude.{◌≡◌, ◌+◌, ◌*◌, ◌%◌, ◌≤◌, true, length};
 ghost use Rattle.word.specs.Placing.{placed, first_refusal};
 ghost use Rattle.word.specs.Fields.{decode_word};
