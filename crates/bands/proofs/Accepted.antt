@@ -68,7 +68,7 @@ unfolding check_each
 each_accepted first above [] e = tt
 each_accepted first above (b ∷ bs) e =
     let a = and_passed _ _ e in
-    ((band_accepted first above b a.0).band, each_accepted first _ bs a.1)
+    ((band_accepted first above b a.0).band, each_accepted first (above + (band_header b).height) bs a.1)
 
 -- one band or more have a joined size within the limits
 joined_fits : (first : Header) (above : ℕ) (b : Standing) (bs : List Standing) → check_each first above (b ∷ bs) ≡ Accepted

@@ -98,6 +98,9 @@ module _ (r : List ℕ) (ok : AreBands r) where
             let long = length-append ps (word_pixels words) in
             omega arith
 
+        pub words_within : {done n : ℕ} → done ≡ 3 * length ps → 3 * length (joined_pixels (series_of r)) ≤ n → done + length words ≤ n
+        words_within at fits = omega (arith, words_three, words_room, at, fits)
+
 -- ---- their tallies joined
 
 pixels_tally : (ps : List Pixel) → Every IsPixel ps → length ps ≤ 16777216 → IsTally (tally_of (luminances_of ps))

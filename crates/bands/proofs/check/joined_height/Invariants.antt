@@ -1,8 +1,7 @@
 -- What the loop keeps to.
 use Prim.Native.Nat.{◌-◌}
-use native.Mathlib.Omega.{arith}
 use lib.ListN.{length}
-use Rattle.bands.proofs.Checking.{ahead, Heights, heights_all, heights_next, heights_done, few_rows}
+use Rattle.bands.proofs.Checking.{Heights}
 use Rattle.bands.proofs.check.joined_height.Given as goal
 
 abbrev pub invariant-loop-i : goal.invariant-loop-i

@@ -1,11 +1,7 @@
 -- What the loop keeps to.
-use Prim.Native.Nat.{◌+◌, ◌-◌, ◌≤◌, ◌<◌}
-use mathlib.Core.List.{[]}
-use native.Mathlib.Omega.{arith}
+use Prim.Native.Nat.{◌-◌}
 use lib.ListN.{length}
-use Rattle.bands.proofs.Accepted.{AreBands, bands_accepted}
-use Rattle.bands.proofs.Checking.{ahead}
-use Rattle.bands.proofs.Walks.{walked_none, words_body, walked_next, Counted, counted_next, counted_all}
+use Rattle.bands.proofs.Walks.{Counted}
 use Rattle.bands.proofs.check.lit_in_bands.Given as goal
 
 abbrev pub invariant-loop-i : goal.invariant-loop-i

@@ -1,0 +1,85 @@
+-- `bands::map::map_each` meets its contract: at each turn the levels of the bands that were passed stand before the indices of the others.
+-- Assumes nothing.
+use borrow.Author.Rules.{rules}
+use Prim.Native.Nat.{◌+◌, ◌≤◌}
+use mathlib.Core.List.{[], flat_map}
+use mathlib.Core.Path.{refl, ap, ◌∙◌}
+use native.Mathlib.Omega.{arith}
+use lib.ListN.{length, length-append}
+use Rattle.refusal.specs.Output.{onto}
+use Rattle.word.specs.Pixels.{word_pixels}
+use Rattle.body.specs.Levels.{levels_under}
+use Rattle.body.specs.loops.Indices.{indices_of}
+use Rattle.body.proofs.Laws.{indices_append, length_indices, levels_append, length_levels}
+use Rattle.bands.proofs.Accepted.{bands_accepted}
+use Rattle.bands.proofs.Tall.{few_pixels}
+use Rattle.bands.proofs.Outputs.{lent, put_next, held_part, held_room}
+use Rattle.bands.proofs.Walks.{walked_none, walked_all, words_body, words_three, words_within, walked_next}
+use Rattle.bands.proofs.map.map_each.Goals as goal
+
+pub loop-i-init : goal.loop-i-init
+unfolding flat_map
+loop-i-init c =
+    record { passed = []; walk = walked_none _ (bands_accepted _ c.requires.0); at = refl; content = refl; long = refl }
+
+-- at a turn the output has room for the band's bytes
+pub slice_bounds-map_levels-count : goal.slice_bounds-map_levels-count
+slice_bounds-map_levels-count c =
+    let inv = c.loop-i.invariant in
+    let held = held_room indices_of indices_append length_indices _ _ c.requires.2.front in
+    let room : c.loop-i.done + length c.body-words.result.now ≤ length c.loop-i.output =
+    words_within _ (bands_accepted _ c.requires.0) inv.walk c.loop-i-test.true c.strip_at-band.ensures c.body-words.ensures inv.at
+    (omega (arith, held, inv.long)) in
+    omega arith
+
+pub slice_bounds-map_levels-start : goal.slice_bounds-map_levels-start
+slice_bounds-map_levels-start c = omega (arith, slice_bounds-map_levels-count c)
+
+pub map_levels-requires : goal.map_levels-requires
+map_levels-requires c =
+    let ok = bands_accepted _ c.requires.0 in
+    let inv = c.loop-i.invariant in
+    let tone = c.args.tone in
+    let old = c.args.output.now in
+    let h = c.loop-i-test.true in
+    let words = c.body-words.result.now in
+    let next = walked_next _ ok inv.walk h c.strip_at-band.ensures c.body-words.ensures in
+    let all = rw (← next.all) at c.requires.2.front in
+    let part = lent (levels_under tone) (levels_append tone) (length_levels tone) inv.passed old inv.content inv.at in (
+      words_body _ ok inv.walk h c.strip_at-band.ensures c.body-words.ensures,
+      c.requires.1,
+      record { front = rw (part, inv.at) (held_part indices_of indices_append length_indices inv.passed (word_pixels words) _ old all) },
+    )
+
+pub overflow_add-done : goal.overflow_add-done
+overflow_add-done c =
+    let ok = bands_accepted _ c.requires.0 in
+    let inv = c.loop-i.invariant in
+    let room : c.loop-i.done + length c.body-words.result.now ≤ 50331648 =
+    words_within _ ok inv.walk c.loop-i-test.true c.strip_at-band.ensures c.body-words.ensures inv.at (omega (arith, few_pixels _ ok)) in
+    omega arith
+
+pub loop-i-preserved : goal.loop-i-preserved
+loop-i-preserved c =
+    let ok = bands_accepted _ c.requires.0 in
+    let inv = c.loop-i.invariant in
+    let tone = c.args.tone in
+    let h = c.loop-i-test.true in
+    let band = c.strip_at-band.ensures in
+    let words = c.body-words.ensures in
+    let long = length-append inv.passed (word_pixels c.body-words.result.now) in
+    record {
+      passed = _;
+      walk = walked_next _ ok inv.walk h band words;
+      at = omega (arith, words_three _ ok inv.walk h band words, long, inv.at);
+      content =
+          put_next (levels_under tone) (levels_append tone) (length_levels tone) inv.passed _ inv.content inv.at _ c.map_levels.ensures;
+      long = search rules;
+    }
+
+pub returns : goal.returns
+returns c =
+    let inv = c.loop-i.invariant in
+    inv.content
+    ∙ ap (λ ps. onto (levels_under c.args.tone ps) c.args.output.now)
+    (walked_all _ (bands_accepted _ c.requires.0) inv.walk c.loop-i-test.false)
