@@ -2,7 +2,6 @@
 use Prim.Native.Nat.{ℕ, ◌+◌, ◌*◌, ◌≤◌, ◌<◌, min}
 use mathlib.Core.Path.{◌≡◌, refl, sym, ap, ◌∙◌}
 use mathlib.Core.List.{List}
-use native.Mathlib.Nat.{zero-add}
 use native.Mathlib.Omega.{arith}
 use borrow.Author.Tests.{le-leb, lt-leb}
 use lib.ListN.{length}
@@ -36,10 +35,6 @@ module _ (r : List ℕ) where
   pub checked_each : {v : Verdict} → 1 ≤ length r → v ≡ check_each (header_fields r) 0 (series_of r) → v ≡ check_bands r
   unfolding check_bands require
   checked_each h e = rw (le-leb _ _ h) e
-
-  -- each band takes a walk on, and not beyond the row
-  pub ahead : {i : ℕ} → i < length r → {band : List ℕ} → band ≡ strip_at r i → (0 < length band) × (i + length band ≤ length r)
-  ahead {i} h b = rw b (strip_at_within r i h)
 
 -- ---- the walk: the verdict on the bands that are left is that on all
 
@@ -89,9 +84,6 @@ pub record Heights (r : List ℕ) (height i : ℕ) : Type 0 where
   pub same : height + joined_height (series_from r i) ≡ joined_height (series_of r)
 
 module _ (r : List ℕ) where
-  pub heights_all : Heights r 0 0
-  heights_all = record { within = omega arith; same = zero-add (joined_height (series_of r)) }
-
   module _ {height i : ℕ} (inv : Heights r height i) where
     pub heights_next : i < length r → {band : List ℕ} → band ≡ strip_at r i
         → Heights r (height + (header_fields band).height) (i + length band)

@@ -7,7 +7,7 @@ use Rattle.strip.proofs.Bodies.{pixels_in}
 use Rattle.strip.specs.Reading.{strip_pixels}
 use Rattle.body.proofs.Laws.{lit_count_law}
 use Rattle.page.proofs.Checks.{map_fits, map_tally, tally_lit}
-use Rattle.page.proofs.Bounds.{map_bound, filled}
+use Rattle.page.proofs.Bounds.{map_bound}
 use Rattle.page.proofs.Strips.{strip_body, words_tally, words_indices, strip_tally_law, strip_tone, strip_indices, over_indices}
 use Rattle.page.proofs.map.map.Goals as goal
 
