@@ -54,6 +54,7 @@ octave_index_law s q e d quotient h o above =
     (scaled_stored s e (12 + j) M (d + j + 66) (omega arith)
     (record { normalised = cell (omega (arith, half)) o.most (omega (arith, floor)) (omega (arith, ceiling)) })))
 
+-- both together, for the exponent E of green
 octave_placed_law : (s i E : ℕ) → Octave (s / 64 / 25) → i < 2 ^ 16 → (i + 8704) % 2 ^ 16 ≡ 128 * E + octave_index (s / 64 / 25)
     → 72 ≤ E → (i % 128 ≡ 0 → ⊥) → i ≡ index_of (Luminance.Lit (stored_of (s * 2 ^ (E - 4) over 100 * unit)))
 octave_placed_law s i E o fits e low other =
