@@ -1,5 +1,6 @@
 // Whether enough of a page's pixels are lit.
 #![tactic(auto)]
+
 ghost use Rattle.std.specs.Prelude.{◌≡◌, [], ◌∷◌, min};
 ghost use Rattle.number.specs.Channels.{IsCode};
 ghost use Rattle.word.specs.Fields.{low16};
