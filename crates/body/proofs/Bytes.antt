@@ -1,7 +1,6 @@
 -- The bytes of pixels, three for each, one after another. Assumes nothing.
-use Rattle.std.proofs.Common.{◌≡◌, ℕ, suc, ◌+◌, ◌*◌, List, [], ◌∷◌, ◌++◌, length, set, sym, refl, ◌∙◌, append_assoc, arith, length-append}
+use Rattle.std.proofs.Common.{◌≡◌, ℕ, ◌*◌, List, [], ◌∷◌, ◌++◌, length, sym, refl, ◌∙◌, append_assoc, arith, length-append}
 use mathlib.Core.List.{flat_map}
-use lib.Seq.{sets}
 use Rattle.number.specs.declared.channel.Pixel.{Pixel}
 use Rattle.tone.specs.declared.tone.Tone.{Tone}
 use Rattle.body.specs.Levels.{levels_of, levels_under}
@@ -19,13 +18,6 @@ module _ {X : Type 0} (f : X → List ℕ) where
   length_bytes three (x ∷ xs) =
       let e = length_bytes three xs in
       length-append (f x) (flat_map f xs) ∙ omega (arith, three x)
-
--- three stores, one behind another
-pub three_sets : (t : List ℕ) (at a b c : ℕ) → set (set (set t at a) (at + 1) b) (at + 2) c ≡ sets t at (a ∷ b ∷ c ∷ [])
-three_sets t at a b c =
-    let e₁ : at + 1 ≡ suc at = omega arith in
-    let e₂ : at + 2 ≡ suc (suc at) = omega arith in
-    rw (e₁, e₂)
 
 -- ---- levels
 

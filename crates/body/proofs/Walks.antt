@@ -1,5 +1,5 @@
 -- Walks that tally: at each turn the sums and the indices are those of the pixels so far. Assumes nothing.
-use Rattle.std.proofs.Common.{◌≡◌, ℕ, ◌+◌, ◌*◌, ◌/◌, ◌<◌, ◌≤◌, min, ◌⊎◌, List, [], ◌∷◌, ◌++◌, map, length, get_or, take, drop, set, replicate, sym, refl, ap, ◌∙◌, ⊎_elim, zero-add, arith, length-append, length-drop, drop_of_length-le, length-take-le, get_or-drop, take_all, get_or-append-add, take-add}
+use Rattle.std.proofs.Common.{◌≡◌, ℕ, ◌+◌, ◌*◌, ◌/◌, ◌<◌, ◌≤◌, min, ◌⊎◌, List, [], ◌∷◌, ◌++◌, map, length, get_or, take, drop, set, replicate, sym, refl, ap, ◌∙◌, ⊎_elim, zero-add, arith, drop_of_length-le, length-take-le, get_or-drop, take_all, get_or-append-add, take-add}
 use mathlib.Core.List.{map-append, flat_map}
 use lib.ListN.{length-map, length-replicate}
 use lib.Seq.{sets, set-get_or}
@@ -132,14 +132,6 @@ module _ (ws : List ℕ) (p : ℕ) (h : length ws / 3 ≤ p) where
       ∙ sym (drop_of_length-le (replicate 16 0) {i = length is} (omega (arith, n, e, length-replicate {A = ℕ} 16 0)))))
       (λ e. ap (onto is) e)
       from
-
--- the row of a block has 16 places
-pub row_long : (ws : List ℕ) → length ws ≤ 48 → length (onto (index_list (word_pixels ws)) (replicate 16 0)) ≡ 16
-row_long ws few =
-    let is = index_list (word_pixels ws) in
-    let zeros : List ℕ = replicate 16 0 in
-    let n : length is ≡ length ws / 3 = length-map (word_pixels ws) pixel_index ∙ length_word_pixels ws in
-    length-append is (drop (length is) zeros) ∙ omega (arith, n, length-drop (length is) zeros, length-replicate {A = ℕ} 16 0)
 
 -- ---- a block of n pixels more, in a walk over all
 
