@@ -169,7 +169,6 @@ fn tally_from(
 }
 
 // The tally of channel words, with the indices in an output that has room.
-#[tactic(auto, unfolding(crate::specs::loops::Tallying::lowest))]
 fn index_pixels(words: &[u32], output: &mut [u8]) -> Tally
     requires { IsBody words.now }
     ensures tally { result ≡ tally_of (luminances_of (word_pixels words.now)) }
