@@ -1,5 +1,6 @@
 // The worked examples of document 01 that are not proved. Each line is printed from what calls answer; `stdout` has what the paper answers.
 #![tactic(auto)]
+
 mod pages;
 mod print;
 mod sources;

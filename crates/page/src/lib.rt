@@ -1,4 +1,5 @@
 // A page tallied and mapped.
 #![tactic(auto)]
+
 pub mod map;
 pub mod tally;

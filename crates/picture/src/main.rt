@@ -1,6 +1,7 @@
 // The picture program: a strip on standard input, its picture or its refusal on standard output. It only reads and writes; what it writes
 // is `ppm`'s.
 #![tactic(auto)]
+
 use ppm::answer::answer_to;
 use std::io::Read;
 

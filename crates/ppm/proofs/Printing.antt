@@ -139,3 +139,7 @@ answered p t₀ u₀ {r} {t} {u} (e, (text, samples)) =
     let n = ap (λ a. a.samples) e in
     let bytes : take r.text t ++ take r.samples u ≡ bytes_of p = rw (front p.text t₀ m text, front p.samples u₀ n samples) in
     (e, (text, (samples, (bytes, (counted p.text t₀ m text, counted p.samples u₀ n samples)))))
+
+-- the same of what equals it
+pub answered_as : {p q : Printed} (t₀ u₀ : List ℕ) {r : Answer} {t u : List ℕ} → p ≡ q → Laid p r t₀ t u₀ u → Answered q r t₀ t u₀ u
+answered_as {p} t₀ u₀ {r} {t} {u} e laid = subst (λ x. Answered x r t₀ t u₀ u) e (answered p t₀ u₀ laid)

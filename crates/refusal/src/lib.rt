@@ -1,5 +1,6 @@
 // The refusal list: why a call turns its input away, with the number and the place that it reports.
 #![tactic(auto)]
+
 ghost use Rattle.std.specs.Prelude.{◌≡◌};
 ghost use Rattle.refusal.specs.Refusals.{outcome_of};
 ghost use Rattle.refusal.specs.Verdicts.{report_of};

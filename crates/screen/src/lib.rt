@@ -1,5 +1,6 @@
 // The curve that levels are printed through, as a table that is proved by one test over all its entries.
 #![tactic(auto)]
+
 ghost use Rattle.std.specs.Prelude.{◌≡◌, map};
 ghost use Rattle.table.specs.Tables.{IsTable};
 ghost use Rattle.screen.specs.Samples.{sample_of};

@@ -13,7 +13,7 @@ returns-in_default c =
 pub returns-in_default-channels : goal.returns-in_default-channels
 returns-in_default-channels c =
     let p = element_refused stored _ _ _ c.check_frame-page.ensures.verdict c.in-Accepted.is
-        c.check_stored-channels.ensures c.in_default-channels.is in
+    c.check_stored-channels.ensures c.in_default-channels.is in
     record { verdict = p.0; outcome = p.1.0; content = p.1.1 }
 
 pub body_end-end-requires : goal.body_end-end-requires
@@ -32,6 +32,6 @@ store_frame-requires c =
 pub returns : goal.returns
 returns c =
     let p = accepted stored _ _ _ c.check_frame-page.ensures.verdict c.in-Accepted.is
-        c.check_stored-channels.ensures c.in-Accepted-channels.is
-        c.body_start-start.ensures c.body_end-end.ensures c.store_stored.ensures c.store_frame.ensures in
+    c.check_stored-channels.ensures c.in-Accepted-channels.is
+    c.body_start-start.ensures c.body_end-end.ensures c.store_stored.ensures c.store_frame.ensures in
     record { verdict = p.0; outcome = p.1.0; content = p.1.1 }
