@@ -69,7 +69,7 @@ module _ (t : Tone) (y : Stored) (tone : IsTone t) (luminance : IsLuminance y) w
       mul-pos {m = 1000 * ((2 * a.mantissa + 1) * 2 ^ a.exponent)}
       (mul-pos {m = 1000} (lit< tt) (mul-pos (omega arith) (pow_pos a.exponent))) unit_pos
 
-  pub scaled_num : (257 ≤ K * (2 * y.mantissa + 1)) × (K * (2 * y.mantissa + 1) ≤ 511000)
+  scaled_num : (257 ≤ K * (2 * y.mantissa + 1)) × (K * (2 * y.mantissa + 1) ≤ 511000)
   scaled_num = product_between 1 1000 257 511 _ _ (tone.key.least, tone.key.most) (omega (arith, luminance.mantissa))
 
   exponents : (20 ≤ 137 + y.exponent - a.exponent) × (137 + y.exponent - a.exponent ≤ 254)

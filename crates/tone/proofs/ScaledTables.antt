@@ -23,9 +23,8 @@ shifted_alike {n} {n'} {d} {E} {M} {E'} {M'} k l s t e = (ap (λ (z : Stored). z
 is_luminance_128 : (M : ℕ) → IsMantissa M → IsLuminance (with_exponent128 M)
 is_luminance_128 M m = record { least = omega arith; most = omega arith; mantissa = m }
 
--- the scaled luminance of y by the code of (128, M): the sum and the difference that give its exponent fit
+-- the scaled luminance of y by the code of (128, M): the difference that gives its exponent fits
 pub record Moved (code : ℕ) (y scaled : Stored) : Type 0 where
-  pub sum : code / 256 + y.exponent ≤ 430
   pub least : 128 ≤ code / 256 + y.exponent
   pub most : code / 256 + y.exponent - 128 ≤ 246
   pub same : record { exponent = code / 256 + y.exponent - 128; mantissa = code % 256 } ≡ scaled
@@ -51,7 +50,6 @@ module _ (t : Tone) (y : Stored) (tone : IsTone t) (luminance : IsLuminance y) w
       let m = is_scaled t (with_exponent128 y.mantissa) tone middle in
       let h = alike in
       record {
-        sum = omega arith;
         least = omega arith;
         most = omega arith;
         same = ap₂ (λ (x m : ℕ). record { exponent = x; mantissa = m }) (omega arith) (omega arith);

@@ -51,7 +51,7 @@ whitened_pos : (W v e : ℕ) → 10 ≤ W → 0 < (whitened W v e).den
 whitened_pos W v e h = (white_ratio W h).den_pos (v * 2 ^ e over unit) unit_pos
 
 -- W², for W from a on
-pub square_between : (a : ℕ) {W : ℕ} → (a ≤ W) × (W ≤ 1000) → (a * a ≤ W * W) × (W * W ≤ 1000000)
+square_between : (a : ℕ) {W : ℕ} → (a ≤ W) × (W ≤ 1000) → (a * a ≤ W * W) × (W * W ≤ 1000000)
 square_between a w = product_between a 1000 a 1000 _ _ w w
 
 -- ---- a white point of 1 changes nothing
@@ -74,20 +74,14 @@ abbrev pub divisor : (W part one : ℕ) → ℕ
 divisor W part one = W * W * (one + part)
 
 pub record Quotient (W part one e : ℕ) : Type 0 where
-  pub square_most : W * W ≤ 1000000
-  pub scaled_square : W * W * one ≤ 2 ^ 43
   pub dividend_most : dividend W part one ≤ 2 ^ 56
-  pub divisor_most : divisor W part one ≤ 2 ^ 45
   pub storable : Storable (unit_ratio (dividend W part one) (divisor W part one) e)
   pub same : stored_of (unit_ratio (dividend W part one) (divisor W part one) e) ≡ stored_of (whitened W part e)
 
 pub quotient : (W part one e : ℕ) → (10 ≤ W) × (W ≤ 1000) → IsQuotient part one e → Quotient W part one e
 quotient W part one e w q =
     record {
-      square_most = v.1;
-      scaled_square = scaled;
       dividend_most = most;
-      divisor_most = divisor_most;
       storable = fits;
       same = sym (stored_alike fits.in_range
           (record { cross = cross (W * W) part one (2 ^ e) unit q.scale }) (whitened_pos W part e w.0));
@@ -95,9 +89,6 @@ quotient W part one e w q =
   where
     v : (100 ≤ W * W) × (W * W ≤ 1000000)
     v = square_between 10 w
-
-    scaled : W * W * one ≤ 2 ^ 43
-    scaled = omega (arith, mul-le-mul v.1 q.one_most)
 
     most : part * (W * W * one + 100 * part) ≤ 2 ^ 56
     most =
@@ -169,7 +160,7 @@ same_units v e l part m q =
     ap (λ (z : ℕ). z * 2 ^ l) q ∙ mul_assoc v (2 ^ (e - l)) (2 ^ l) ∙ ap (λ (z : ℕ). v * z) (power_difference e l (omega arith))
 
 -- from exponent 137 on, a value in whole numbers
-pub whole_units : (v e : ℕ) → 137 ≤ e → v * 2 ^ (e - 137) * 2 ^ 137 ≡ v * 2 ^ e
+whole_units : (v e : ℕ) → 137 ≤ e → v * 2 ^ (e - 137) * 2 ^ 137 ≡ v * 2 ^ e
 whole_units v e h = mul_assoc v (2 ^ (e - 137)) (2 ^ 137) ∙ ap (λ (z : ℕ). v * z) (power_difference e 137 h)
 
 -- ---- L as a whole number x, of which the curve is x(W² + 100x) / (W²(1 + x))
@@ -191,9 +182,6 @@ cut a r p b e l pb pr q fits same pos = sym (stored_as (whole (in_range fits.in_
 
 -- below exponent 170, with x for v · 2^(e-137)
 pub record Near (W v e x : ℕ) : Type 0 where
-  pub square_most : W * W ≤ 1000000
-  pub whole_least : 257 * 2 ^ 16 ≤ x
-  pub whole_most : x < 2 ^ 42
   pub storable : Storable (unit_ratio (200 * x + 2 * (W * W) - 201) (2 * (W * W)) 137)
   pub same : stored_of (unit_ratio (200 * x + 2 * (W * W) - 201) (2 * (W * W)) 137) ≡ stored_of (whitened W v e)
 
@@ -225,9 +213,6 @@ module _ (W v e : ℕ) (w : (10 < W) × (W ≤ 1000)) (value : (257 ≤ v) × (v
   pub near : (x : ℕ) → x ≡ v * 2 ^ (e - 137) → (152 < e) × (e < 170) → Near W v e x
   near x q h =
       record {
-        square_most = limits.1;
-        whole_least = least;
-        whole_most = most;
         storable = fits;
         same = ap by bit
             ∙ cut a r (1 * (1 + x)) (W * W) 137 (omega (arith, least, limits)) (omega (arith, limits)) (omega (arith, least, limits))
