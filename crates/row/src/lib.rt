@@ -24,6 +24,7 @@ pub enum RowOrRefusal {
 }
 
 // Where row y stands, from the red word of its first pixel to the blue word of its last.
+#[tactic(auto, using(crate::proofs::Rows::row_short))]
 pub fn find_row(strip: &[u32], y: usize) -> RowOrRefusal
     ensures answer { result ≡ find_row strip.now y }
     ensures told { row_told result ≡ row_told (find_row strip.now y) }
@@ -42,6 +43,7 @@ pub fn find_row(strip: &[u32], y: usize) -> RowOrRefusal
 }
 
 // The words of row y; the empty part where `check_row` refuses.
+#[tactic(auto, using(crate::proofs::Rows::found_inside))]
 pub fn row(strip: &[u32], y: usize) -> &[u32]
     ensures words { result.now ≡ words_of (row_of strip.now y) strip.now }
     ensures place { result.ref_ptr ≡ pointer_to (row_of strip.now y) strip.entry.ref_ptr }
