@@ -1,5 +1,5 @@
 -- `page::map::check_map` meets its contract. Assumes nothing.
-use mathlib.Core.Path.{◌≡◌, sym, ◌∙◌}
+use mathlib.Core.Path.{sym, ◌∙◌}
 use Rattle.strip.proofs.Limits.{output_limits}
 use Rattle.page.proofs.Checks.{map_refused, map_checked}
 use Rattle.page.proofs.Strips.{strip_body, words_light}

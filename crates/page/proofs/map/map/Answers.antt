@@ -1,7 +1,6 @@
 -- `page::map::map` meets its contract: a refusal comes before the first store. Assumes nothing.
-use mathlib.Core.Path.{◌≡◌, sym, ◌∙◌}
+use mathlib.Core.Path.{sym, ◌∙◌}
 use native.Mathlib.Omega.{arith}
-use lib.ListN.{length}
 use Rattle.strip.proofs.Limits.{length_body}
 use Rattle.strip.proofs.Bodies.{pixels_in}
 use Rattle.strip.specs.Reading.{strip_pixels}

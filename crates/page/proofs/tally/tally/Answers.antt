@@ -1,5 +1,5 @@
 -- `page::tally::tally` meets its contract. Assumes nothing.
-use mathlib.Core.Path.{◌≡◌, sym, ap, ◌∙◌}
+use mathlib.Core.Path.{sym, ap, ◌∙◌}
 use Rattle.strip.proofs.Limits.{whole_strip}
 use Rattle.page.specs.Tallying.{tally_told}
 use Rattle.page.proofs.Bounds.{tallied, refused, tally_bound}
