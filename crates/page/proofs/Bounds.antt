@@ -1,6 +1,6 @@
 -- Demand 3 of a page, and the promises of the two calls. Assumes nothing.
 use Prim.Native.Nat.{ℕ}
-use mathlib.Core.Path.{◌≡◌, refl}
+use mathlib.Core.Path.{◌≡◌, refl, sym, subst}
 use mathlib.Core.List.{List, [], ◌∷◌, ◌++◌, flat_map}
 use mathlib.Core.Logic.{inl, inr}
 use lib.ListN.{length}
@@ -9,9 +9,11 @@ use Rattle.number.proofs.Laws.{Every}
 use Rattle.refusal.specs.declared.Refusal.{Refusal}
 use Rattle.refusal.specs.declared.Verdict.{Verdict}
 use Rattle.refusal.specs.declared.Verdict.TheVariants.{Accepted, Refused}
+use Rattle.refusal.specs.Verdicts.{report_of}
+use Rattle.refusal.proofs.Laws.{also_with}
 use Rattle.word.specs.Words.{pixels}
 use Rattle.strip.specs.Checks.{header_fields, check_strip}
-use Rattle.refusal.specs.Output.{onto}
+use Rattle.refusal.specs.Output.{onto, after}
 use Rattle.strip.specs.Reading.{strip_pixels}
 use Rattle.average.specs.declared.average.Average.TheVariants.{Present}
 use Rattle.average.specs.declared.tally.Tally.{Tally}
@@ -21,8 +23,9 @@ use Rattle.tone.specs.declared.tone.Tone.{Tone}
 use Rattle.tone.specs.Levels.{IsTone}
 use Rattle.luminance.specs.Pixels.{IsPixel}
 use Rattle.tone.proofs.Laws.{level_bound}
+use Rattle.page.specs.declared.tally.TallyOrRefusal.{TallyOrRefusal}
 use Rattle.page.specs.declared.tally.TallyOrRefusal.TheVariants.{Refuses}
-use Rattle.page.specs.Tallying.{strip_luminances, strip_tally, tally_steps, tally_under, tally_strip}
+use Rattle.page.specs.Tallying.{strip_luminances, strip_tally, tally_steps, tally_under, tally_told, tally_strip}
 use Rattle.body.specs.Levels.{levels_under}
 use Rattle.body.proofs.Laws.{stored_luminance, lit_luminance, lit_count_law, every_luminance}
 use Rattle.page.specs.Checks.{check_tally}
@@ -97,8 +100,24 @@ tally_bound s = by (check_tally s) refl
         }
     by (Refused r i) e = tt
 
+-- an answer by a rule that promises so much of a strip
+pub bounded : (s : List ℕ) {rule answer : TallyOrRefusal} → TallyPromise s rule → answer ≡ rule
+    → (answer ≡ rule) × ((tally_told answer ≡ tally_told rule) × TallyPromise s answer)
+bounded s p e = also_with tally_told e (subst (TallyPromise s) (sym e) p)
+
 pub map_bound : (s output : List ℕ) → check_tally s ≡ Accepted → MapPromise s Accepted (onto (strip_levels s) output)
 map_bound s output e = (tally_lit s e, level_half s e output)
+
+-- what a call leaves in the output where a rule decides: these levels, of which so much is promised of a strip
+module _ (s levels old : List ℕ) (rule : Verdict) where
+  abbrev Mapped : Verdict → (new : List ℕ) → Type 0
+  Mapped v new = (v ≡ rule) × ((report_of v ≡ report_of rule) × ((new ≡ after v levels old) × MapPromise s v new))
+
+  pub left_alone : {v : Verdict} {r : Refusal} {i : ℕ} → v ≡ rule → v ≡ Refused r i → Mapped v old
+  left_alone e f = also_with report_of e (rw f, rw f tt)
+
+  pub filled : {new : List ℕ} → Accepted ≡ rule → new ≡ onto levels old → MapPromise s Accepted (onto levels old) → Mapped Accepted new
+  filled e f p = also_with report_of e (f, rw f p)
 
 -- ---- both together
 
