@@ -1,6 +1,6 @@
 /* Dofnihet: high-dynamic-range pages stored as strips, tallied, and mapped to 24-bit levels.
  *
- * Link with libdofnihet.a, which `rt staticlib dofnihet` writes to target/staticlib/. What each call answers is proved for every input; the
+ * Link with libdofnihet.a, which `tools/build library` leaves to target/staticlib/. What each call answers is proved for every input; the
  * contracts stand in crates/dofnihet/src.
  *
  * Every slice is a pointer and the number of its elements. The pointer is never NULL, not even where the number is 0, and is aligned for
@@ -192,7 +192,7 @@ dofnihet_tally dofnihet_tally_of_bands(const uint32_t *bands, size_t bands_len);
  * Refuses as dofnihet_tally_of_bands does, with 4 last. */
 dofnihet_outcome dofnihet_map_bands(const uint32_t *bands, size_t bands_len, uint8_t *output, size_t output_len);
 
-/* Writes what stands before the samples in a Netpbm P6 picture: "P6", width, height, "255".
+/* Writes what stands before the levels in a Netpbm P6 picture: "P6", width, height, "255".
  * The output has 50 bytes, enough for any two numbers.
  * Answers how many bytes of its front are the text's. */
 uint64_t dofnihet_front_of(uint64_t width, uint64_t height, uint8_t output[50]);

@@ -1,4 +1,4 @@
-// What a picture is printed with: what stands before its samples, and the sample of each level.
+// What stands before the levels in a picture, and the sample of each level for a screen.
 ghost use Rattle.std.specs.Prelude.{◌≡◌, length};
 ghost use Rattle.refusal.specs.Output.{onto};
 ghost use Rattle.table.specs.Tables.{IsTable};
@@ -17,7 +17,7 @@ pub extern "C" fn dofnihet_front_of(width: u64, height: u64, output: &mut [u8; 5
     front(width, height, output) as u64
 }
 
-// The sample that each level is printed as.
+// The sample of each level, for a host that shows it on a screen.
 #[unsafe(no_mangle)]
 pub extern "C" fn dofnihet_screen_table(output: &mut [u8; 256])
     ensures content { IsTable 256 sample_of output.new }

@@ -235,7 +235,7 @@ pub fn map_bands(bands: &[u32], output: &mut [u8]) -> Result<(), Refusal> {
     done(raw::map_bands(bands, output))
 }
 
-/// What stands before the samples in a P6 picture.
+/// What stands before the levels in a P6 picture.
 pub fn front(width: u64, height: u64) -> Vec<u8> {
     let mut text = [0; 50];
     let count = raw::front(width, height, &mut text);
