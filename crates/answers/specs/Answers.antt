@@ -2,19 +2,12 @@
 -- Each answer is the one that its enum's definition gives in numbers, field by field; a field that an answer leaves free is 0.
 use Rattle.std.specs.Prelude.{ℕ, zero, suc, ◌≡◌, List}
 use Rattle.refusal.specs.declared.Outcome.{Outcome}
-use Rattle.refusal.specs.declared.Verdict.{Verdict}
 use Rattle.refusal.specs.Verdicts.{report_of}
 use Rattle.refusal.specs.Output.{after}
-use Rattle.white.specs.declared.White.{White}
-use Rattle.white.specs.declared.White.TheVariants.{Absent, Tenths}
 use Rattle.word.specs.declared.header.Header.{Header}
-use Rattle.strip.specs.declared.read.HeaderOrRefusal.{HeaderOrRefusal}
 use Rattle.strip.specs.Reading.{header_told}
-use Rattle.row.specs.declared.RowOrRefusal.{RowOrRefusal}
 use Rattle.row.specs.Rows.{row_told}
-use Rattle.reader.specs.declared.Step.{Step}
 use Rattle.reader.specs.Steps.{step_told}
-use Rattle.page.specs.declared.tally.TallyOrRefusal.{TallyOrRefusal}
 use Rattle.page.specs.Tallying.{tally_told}
 use Rattle.answers.specs.Values.{value_at, signed_at}
 use Rattle.answers.specs.declared.headers.Page.{Page}
@@ -22,11 +15,18 @@ use Rattle.answers.specs.declared.headers.HeaderAnswer.{HeaderAnswer}
 use Rattle.answers.specs.declared.rows.RowAnswer.{RowAnswer}
 use Rattle.answers.specs.declared.steps.StepAnswer.{StepAnswer}
 use Rattle.answers.specs.declared.tallies.TallyAnswer.{TallyAnswer}
+use Rattle.std.specs.Prelude.{None, Result, Some}
+use Rattle.page.specs.declared.tally.PageTally.{PageTally}
+use Rattle.reader.specs.Steps.{Step}
+use Rattle.refusal.specs.Verdicts.{Verdict}
+use Rattle.refusal.specs.declared.Fault.{Fault}
+use Rattle.row.specs.declared.Part.{Part}
+use Rattle.white.specs.Whites.{White}
 
 -- the white point that two numbers of C stand for: none where the first is 0, whatever the second; else the second
 unfoldable pub white_given : (present W : ℕ) → White
-white_given zero W = Absent
-white_given (suc n) W = Tenths W
+white_given zero W = None
+white_given (suc n) W = Some W
 
 -- the header that a page's numbers stand for
 unfoldable pub header_of : Page → Header
@@ -38,7 +38,7 @@ pub record Reports (verdict : Verdict) (front old : List ℕ) (told : Outcome) (
   pub content : new ≡ after verdict front old
 
 -- a page's header, or its refusal
-abbrev pub header_answer : HeaderOrRefusal → HeaderAnswer
+abbrev pub header_answer : Result Header Fault → HeaderAnswer
 header_answer a =
     let t = header_told a in
     record {
@@ -52,13 +52,13 @@ header_answer a =
     }
 
 -- where a row stands, or its refusal
-abbrev pub row_answer : RowOrRefusal → RowAnswer
+abbrev pub row_answer : Result Part Fault → RowAnswer
 row_answer a =
     let t = row_told a in
     record { number = t.outcome.number; place = t.outcome.place; start = value_at t 0; length = value_at t 1 }
 
 -- a page's tally, or its refusal
-abbrev pub tally_answer : TallyOrRefusal → TallyAnswer
+abbrev pub tally_answer : Result PageTally Fault → TallyAnswer
 tally_answer a =
     let t = tally_told a in
     record {

@@ -2,12 +2,12 @@
 use Rattle.std.specs.Prelude.{ℕ, ◌<◌, ◌≡◌, List, pos}
 use Rattle.strip.specs.Reading.{strip_pixels}
 use Rattle.refusal.specs.declared.Outcome.{Outcome}
-use Rattle.refusal.specs.declared.Verdict.TheVariants.{Accepted}
 use Rattle.number.specs.declared.ratio.Stored.{Stored}
 use Rattle.average.specs.Claims.{AreExtremes}
 use Rattle.body.specs.Luminances.{luminances_of, lit_count}
 use Rattle.page.specs.Claims.{MeanHalf, HasLight, MapPromise}
 use Rattle.answers.specs.declared.tallies.TallyAnswer.{TallyAnswer}
+use Rattle.refusal.specs.Verdicts.{accepted}
 
 -- the extremes of a tally's answer
 abbrev pub darkest_in : TallyAnswer → Stored
@@ -30,4 +30,4 @@ pub record TallyBound (s : List ℕ) (r : TallyAnswer) : Type 0 where
 
 -- the second half holds of the bytes that an accepted call leaves
 pub record MapBound (s : List ℕ) (r : Outcome) (bytes : List ℕ) : Type 0 where
-  pub levels : r.number ≡ 0 → MapPromise s Accepted bytes
+  pub levels : r.number ≡ 0 → MapPromise s accepted bytes

@@ -1,14 +1,12 @@
 // A page's header: as C passes it, and as C is told of it.
 ghost use Rattle.std.specs.Prelude.{◌≡◌};
-ghost use Rattle.white.specs.Whites.{present_in, tenths_in};
-ghost use Rattle.answers.specs.Answers.{white_given, header_of, header_answer};
+ghost use Rattle.answers.specs.Answers.{header_of, header_answer};
 
-use refusal::outcome_of;
-use strip::read::HeaderOrRefusal;
-use white::White;
+use refusal::{Fault, Outcome};
 use word::header::Header;
 
-// What a page is converted with, as C passes it: `white` counts where `white_present` is not 0.
+// What a page is converted with, as C passes it: `white` counts where `white_present` is not 0. C has no Option: a number says that the
+// next one counts.
 #[repr(C)]
 #[derive(Clone, Copy)]
 pub struct Page {
@@ -19,9 +17,10 @@ pub struct Page {
     pub white: u64,
 }
 
-// A page's header; a page without a white point has 0 in the last two fields, a refusal in all but number and place.
+// A page's header; a page without a white point has 0 in the last two fields, a refusal in all but number and place. C has no Result: number
+// and place are 0 where there is no refusal.
 #[repr(C)]
-#[derive(Clone, Copy)]
+#[derive(Clone, Copy, Default)]
 pub struct HeaderAnswer {
     pub number: u64,
     pub place: u64,
@@ -32,79 +31,43 @@ pub struct HeaderAnswer {
     pub white: u64,
 }
 
-// The white point that two numbers of C stand for.
-#[tactic(auto, unfolding(crate::specs::Answers::white_given))]
-fn white_given(present: u64, tenths: u64) -> White
-    ensures { result ≡ white_given present tenths }
-{
-    if present == 0 {
-        White::Absent
-    } else {
-        White::Tenths(tenths)
-    }
-}
-
 // The header that a page's numbers stand for.
-#[tactic(auto, unfolding(crate::specs::Answers::header_of))]
-pub fn page_header(page: Page) -> Header
-    ensures { result ≡ header_of page }
-{
-    Header {
-        width: page.width,
-        height: page.height,
-        key: page.key,
-        white: white_given(page.white_present, page.white),
-    }
-}
+impl From<Page> for Header {
+    ghost from_gives = { λ page header. header ≡ header_of page };
 
-// 1 where there is a white point, else 0.
-fn white_present(white: White) -> u64
-    ensures { result ≡ present_in white }
-{
-    match white {
-        White::Absent => 0,
-        White::Tenths(_) => 1,
-    }
-}
-
-// W, or 0 where there is none.
-fn white_tenths(white: White) -> u64
-    ensures { result ≡ tenths_in white }
-{
-    match white {
-        White::Absent => 0,
-        White::Tenths(tenths) => tenths,
+    #[tactic(auto, unfolding(crate::specs::Answers::header_of, crate::specs::Answers::white_given))]
+    fn from(page: Page) -> Header {
+        Header {
+            width: page.width,
+            height: page.height,
+            key: page.key,
+            white: (page.white_present != 0).then_some(page.white),
+        }
     }
 }
 
 // A page's header or its refusal, in numbers.
-pub fn header_answer(answer: HeaderOrRefusal) -> HeaderAnswer
-    ensures { result ≡ header_answer answer }
-{
-    match answer {
-        HeaderOrRefusal::Holds(header) => {
-            let white = header.white;
-            HeaderAnswer {
-                number: 0,
-                place: 0,
+impl From<Result<Header, Fault>> for HeaderAnswer {
+    ghost from_gives = { λ answer numbers. numbers ≡ header_answer answer };
+
+    fn from(answer: Result<Header, Fault>) -> HeaderAnswer {
+        match answer {
+            Ok(header) => HeaderAnswer {
                 width: header.width,
                 height: header.height,
                 key: header.key,
-                white_present: white_present(white),
-                white: white_tenths(white),
-            }
-        },
-        HeaderOrRefusal::Refuses(refusal, index) => {
-            let outcome = outcome_of(refusal, index);
-            HeaderAnswer {
-                number: outcome.number,
-                place: outcome.place as u64,
-                width: 0,
-                height: 0,
-                key: 0,
-                white_present: 0,
-                white: 0,
-            }
-        },
+                white_present: header.white.is_some() as u64,
+                white: header.white.unwrap_or(0),
+                ..HeaderAnswer::default()
+            },
+            Err(fault) => {
+                let outcome = Outcome::from(fault);
+                HeaderAnswer {
+                    number: outcome.number,
+                    place: outcome.place as u64,
+                    ..HeaderAnswer::default()
+                }
+            },
+        }
     }
 }

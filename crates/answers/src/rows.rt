@@ -2,12 +2,13 @@
 ghost use Rattle.std.specs.Prelude.{◌≡◌};
 ghost use Rattle.answers.specs.Answers.{row_answer};
 
-use refusal::outcome_of;
-use row::RowOrRefusal;
+use refusal::{Fault, Outcome};
+use row::Part;
 
-// A row: `length` words of the strip, from the index `start` on; a refusal has 0 in both.
+// A row: `length` words of the strip, from the index `start` on; a refusal has 0 in both. C has no Result: number and place are 0 where there
+// is no refusal.
 #[repr(C)]
-#[derive(Clone, Copy)]
+#[derive(Clone, Copy, Default)]
 pub struct RowAnswer {
     pub number: u64,
     pub place: u64,
@@ -16,24 +17,24 @@ pub struct RowAnswer {
 }
 
 // Where a row stands or its refusal, in numbers.
-pub fn row_answer(answer: RowOrRefusal) -> RowAnswer
-    ensures { result ≡ row_answer answer }
-{
-    match answer {
-        RowOrRefusal::Holds(part) => RowAnswer {
-            number: 0,
-            place: 0,
-            start: part.start as u64,
-            length: part.count as u64,
-        },
-        RowOrRefusal::Refuses(refusal, index) => {
-            let outcome = outcome_of(refusal, index);
-            RowAnswer {
-                number: outcome.number,
-                place: outcome.place as u64,
-                start: 0,
-                length: 0,
-            }
-        },
+impl From<Result<Part, Fault>> for RowAnswer {
+    ghost from_gives = { λ answer numbers. numbers ≡ row_answer answer };
+
+    fn from(answer: Result<Part, Fault>) -> RowAnswer {
+        match answer {
+            Ok(part) => RowAnswer {
+                start: part.start as u64,
+                length: part.count as u64,
+                ..RowAnswer::default()
+            },
+            Err(fault) => {
+                let outcome = Outcome::from(fault);
+                RowAnswer {
+                    number: outcome.number,
+                    place: outcome.place as u64,
+                    ..RowAnswer::default()
+                }
+            },
+        }
     }
 }

@@ -2,13 +2,13 @@
 ghost use Rattle.std.specs.Prelude.{◌≡◌};
 ghost use Rattle.answers.specs.Answers.{step_answer};
 
-use number::channel::channel_to_code;
-use reader::Step;
-use refusal::outcome_of;
+use number::channel::{Pixel, channel_to_code};
+use refusal::{Fault, Outcome};
 
-// A step: `over` is 1 where the page is over, else 0 with the pixel's channels as 16-bit numbers; a refusal has 0 in all four.
+// A step: `over` is 1 where the page is over, else 0 with the pixel's channels as 16-bit numbers; a refusal has 0 in all four. C has no Result
+// and no Option: number and place are 0 where there is no refusal, and `over` says that no pixel follows.
 #[repr(C)]
-#[derive(Clone, Copy)]
+#[derive(Clone, Copy, Default)]
 pub struct StepAnswer {
     pub number: u64,
     pub place: u64,
@@ -18,42 +18,30 @@ pub struct StepAnswer {
     pub blue: u64,
 }
 
-// A step's answer, in numbers.
-pub fn step_answer(step: Step) -> StepAnswer
-    ensures { result ≡ step_answer step }
-{
-    match step {
-        Step::Pixel(pixel) => {
-            let red = pixel.red;
-            let green = pixel.green;
-            let blue = pixel.blue;
-            StepAnswer {
-                number: 0,
-                place: 0,
-                over: 0,
-                red: channel_to_code(red) as u64,
-                green: channel_to_code(green) as u64,
-                blue: channel_to_code(blue) as u64,
-            }
-        },
-        Step::PageOver => StepAnswer {
-            number: 0,
-            place: 0,
-            over: 1,
-            red: 0,
-            green: 0,
-            blue: 0,
-        },
-        Step::Refuses(refusal, index) => {
-            let outcome = outcome_of(refusal, index);
-            StepAnswer {
-                number: outcome.number,
-                place: outcome.place as u64,
-                over: 0,
-                red: 0,
-                green: 0,
-                blue: 0,
-            }
-        },
+// A step or the strip's refusal, in numbers.
+impl From<Result<Option<Pixel>, Fault>> for StepAnswer {
+    ghost from_gives = { λ step numbers. numbers ≡ step_answer step };
+
+    fn from(step: Result<Option<Pixel>, Fault>) -> StepAnswer {
+        match step {
+            Ok(Some(pixel)) => StepAnswer {
+                red: channel_to_code(pixel.red) as u64,
+                green: channel_to_code(pixel.green) as u64,
+                blue: channel_to_code(pixel.blue) as u64,
+                ..StepAnswer::default()
+            },
+            Ok(None) => StepAnswer {
+                over: 1,
+                ..StepAnswer::default()
+            },
+            Err(fault) => {
+                let outcome = Outcome::from(fault);
+                StepAnswer {
+                    number: outcome.number,
+                    place: outcome.place as u64,
+                    ..StepAnswer::default()
+                }
+            },
+        }
     }
 }

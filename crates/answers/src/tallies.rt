@@ -1,17 +1,33 @@
 // The tally of a page.
 ghost use Rattle.std.specs.Prelude.{◌≡◌};
-ghost use Rattle.average.specs.Tallies.{darkest_of, brightest_of};
 ghost use Rattle.answers.specs.Answers.{tally_answer};
 
 use average::average::Average;
 use average::tally::Extremes;
 use number::ratio::Stored;
-use page::tally::TallyOrRefusal;
-use refusal::outcome_of;
+use page::tally::PageTally;
+use refusal::{Fault, Outcome};
 
-// A tally with its average and its extremes; a refusal has 0 in all of them, and so has what a tally is without.
+// What stands for a luminance that is absent.
+const NO_STORED: Stored = Stored {
+    exponent: 0,
+    mantissa: 0,
+};
+
+const NO_AVERAGE: Average = Average {
+    steps: 0,
+    stored: NO_STORED,
+};
+
+const NO_EXTREMES: Extremes = Extremes {
+    darkest: NO_STORED,
+    brightest: NO_STORED,
+};
+
+// A tally with its average and its extremes; a refusal has 0 in all of them, and so has what a tally is without. C has no Result and no Option:
+// number and place are 0 where there is no refusal, and `present` says that the average counts.
 #[repr(C)]
-#[derive(Clone, Copy)]
+#[derive(Clone, Copy, Default)]
 pub struct TallyAnswer {
     pub number: u64,
     pub place: u64,
@@ -27,88 +43,37 @@ pub struct TallyAnswer {
     pub brightest_mantissa: u64,
 }
 
-// The darkest luminance, (0,0) where it is absent.
-fn darkest_of(extremes: Extremes) -> Stored
-    ensures { result ≡ darkest_of extremes }
-{
-    match extremes {
-        Extremes::Absent => Stored {
-            exponent: 0,
-            mantissa: 0,
-        },
-        Extremes::Both(darkest, _) => darkest,
-    }
-}
-
-// The brightest luminance, likewise.
-fn brightest_of(extremes: Extremes) -> Stored
-    ensures { result ≡ brightest_of extremes }
-{
-    match extremes {
-        Extremes::Absent => Stored {
-            exponent: 0,
-            mantissa: 0,
-        },
-        Extremes::Both(_, brightest) => brightest,
-    }
-}
-
 // A page's tally with its average or its refusal, in numbers.
-pub fn tally_answer(answer: TallyOrRefusal) -> TallyAnswer
-    ensures { result ≡ tally_answer answer }
-{
-    match answer {
-        TallyOrRefusal::Holds(tally, average) => {
-            let extremes = tally.extremes;
-            let darkest = darkest_of(extremes);
-            let brightest = brightest_of(extremes);
-            match average {
-                Average::Absent => TallyAnswer {
-                    number: 0,
-                    place: 0,
-                    lit: tally.count,
-                    sum: tally.sum,
-                    present: 0,
-                    average: 0,
-                    exponent: 0,
-                    mantissa: 0,
-                    darkest_exponent: darkest.exponent as u64,
-                    darkest_mantissa: darkest.mantissa as u64,
-                    brightest_exponent: brightest.exponent as u64,
-                    brightest_mantissa: brightest.mantissa as u64,
-                },
-                Average::Present(steps, stored) => TallyAnswer {
-                    number: 0,
-                    place: 0,
-                    lit: tally.count,
-                    sum: tally.sum,
-                    present: 1,
-                    average: steps,
-                    exponent: stored.exponent as u64,
-                    mantissa: stored.mantissa as u64,
-                    darkest_exponent: darkest.exponent as u64,
-                    darkest_mantissa: darkest.mantissa as u64,
-                    brightest_exponent: brightest.exponent as u64,
-                    brightest_mantissa: brightest.mantissa as u64,
-                },
-            }
-        },
-        TallyOrRefusal::Refuses(refusal, index) => {
-            let outcome = outcome_of(refusal, index);
-            TallyAnswer {
-                number: outcome.number,
-                place: outcome.place as u64,
-                lit: 0,
-                sum: 0,
-                present: 0,
-                average: 0,
-                exponent: 0,
-                mantissa: 0,
-                darkest_exponent: 0,
-                darkest_mantissa: 0,
-                brightest_exponent: 0,
-                brightest_mantissa: 0,
-            }
-        },
+impl From<Result<PageTally, Fault>> for TallyAnswer {
+    ghost from_gives = { λ answer numbers. numbers ≡ tally_answer answer };
+
+    fn from(answer: Result<PageTally, Fault>) -> TallyAnswer {
+        match answer {
+            Ok(page) => {
+                let average = page.average.unwrap_or(NO_AVERAGE);
+                let extremes = page.tally.extremes.unwrap_or(NO_EXTREMES);
+                TallyAnswer {
+                    lit: page.tally.count,
+                    sum: page.tally.sum,
+                    present: page.average.is_some() as u64,
+                    average: average.steps,
+                    exponent: average.stored.exponent as u64,
+                    mantissa: average.stored.mantissa as u64,
+                    darkest_exponent: extremes.darkest.exponent as u64,
+                    darkest_mantissa: extremes.darkest.mantissa as u64,
+                    brightest_exponent: extremes.brightest.exponent as u64,
+                    brightest_mantissa: extremes.brightest.mantissa as u64,
+                    ..TallyAnswer::default()
+                }
+            },
+            Err(fault) => {
+                let outcome = Outcome::from(fault);
+                TallyAnswer {
+                    number: outcome.number,
+                    place: outcome.place as u64,
+                    ..TallyAnswer::default()
+                }
+            },
+        }
     }
 }

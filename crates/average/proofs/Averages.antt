@@ -9,14 +9,16 @@ use lib.IntN.{ℤ, pos, sub_ℕ, nat_abs, ◌+ℤ◌}
 use borrow.Author.Tests.{eqb-true, eqb-false, ne_eqb}
 use Rattle.number.proofs.Laws.{same_difference, sub_pos, sub_plus, sub_least, sub_most, lowered}
 use Rattle.number.specs.declared.ratio.Stored.{Stored}
-use Rattle.average.specs.Averages.{floor_div, floor_mod, stored_average, average_steps, average_of, IsAverage, IsStoredAverage}
+use Rattle.average.specs.Averages.{floor_div, floor_mod, stored_average, average_steps, ◌stored_as◌, average_of, IsAverage, IsStoredAverage}
 use Rattle.average.specs.loops.Sums.{IsSum, HasAverage}
-use Rattle.average.specs.declared.average.Average.TheVariants.{Absent, Present}
 use Rattle.average.specs.Tables.{root_of}
 use Rattle.average.specs.Claims.{AveragesInRange}
 use Rattle.average.proofs.Division.{floor_sub, mod_sub}
 use Rattle.average.proofs.Rules.{root_mantissa}
 use Rattle.average.proofs.Sums.{InSteps, sum_lowered, tally_is_sum}
+use Rattle.average.specs.declared.average.Average.{Average}
+use Rattle.std.specs.Prelude.{None, Some}
+use Rattle.std.proofs.lemmas.Option.{same_Some}
 
 average_in_range : {n : ℕ} {z : ℤ} → 0 < n → IsSum n z → IsAverage (floor_div z n)
 average_in_range {n} h s =
@@ -86,22 +88,24 @@ pub record Reported (n : ℕ) (z A : ℤ) (average : Stored) : Type 0 where
   pub stored : stored_average A ≡ average
 
 module _ (n : ℕ) (z : ℤ) where
-  pub reported : {A : ℤ} {average : Stored} → average_of n z ≡ Present A average → Reported n z A average
+  pub reported : {A : ℤ} {average : Stored} → average_of n z ≡ Some (A stored_as average) → Reported n z A average
   unfolding average_of
   reported {A} {average} = by (eqb n 0) refl
     where
-      by : (b : Bool) → eqb n 0 ≡ b → cond b Absent (Present (floor_div z n) (stored_average (floor_div z n))) ≡ Present A average
+      by : (b : Bool) → eqb n 0 ≡ b → cond b None (Some (floor_div z n stored_as stored_average (floor_div z n))) ≡ Some (A stored_as average)
           → Reported n z A average
       by true q e = let clash : suc zero ≡ zero = cc in record { lit = omega arith; steps = cc; stored = cc }
       by false q e =
-          let same : floor_div z n ≡ A = cc in
-          record { lit = pos_of_ne-zero (eqb-false n 0 q); steps = same; stored = cc }
+          let same = same_Some _ _ e in
+          let steps : floor_div z n ≡ A = ap (λ (a : Average). a.steps) same in
+          let stored : stored_average (floor_div z n) ≡ average = ap (λ (a : Average). a.stored) same in
+          record { lit = pos_of_ne-zero (eqb-false n 0 q); steps = steps; stored = cc }
 
-  pub present : 0 < n → average_of n z ≡ Present (average_steps n z) (stored_average (average_steps n z))
+  pub present : 0 < n → average_of n z ≡ Some (average_steps n z stored_as stored_average (average_steps n z))
   unfolding average_of
   present some = rw (ne_eqb n 0 (λ e. omega arith))
 
-  pub reported_range : {A : ℤ} {average : Stored} → IsSum n z → average_of n z ≡ Present A average → IsStoredAverage average
+  pub reported_range : {A : ℤ} {average : Stored} → IsSum n z → average_of n z ≡ Some (A stored_as average) → IsStoredAverage average
   reported_range s e =
       let r = reported e in
       subst IsStoredAverage r.stored (stored_average_range _ (subst IsAverage r.steps (average_in_range r.lit s)))

@@ -6,9 +6,6 @@ use native.Mathlib.Nat.{mod-lt, div-add-mod'}
 use native.Mathlib.Omega.{arith}
 use lib.Arith.{digits_div, digits_mod}
 use lib.IntN.{ℤ, pos, negsuc, sub_ℕ, ◌+ℤ◌, ◌*ℤ◌, pos-*ℤ-pos}
-use mir.Syntax.{w64}
-use mir.Val.{SFits, to_z, of_z}
-use mir.Facts.{to_z-of_z}
 use Rattle.number.proofs.Laws.{sub_pos, sub_neg, sub_cases, sub_plus, sub_times}
 use Rattle.average.specs.Averages.{floor_div, floor_mod}
 use Rattle.average.specs.Claims.{FloorDivides}
@@ -48,7 +45,3 @@ floor_divides z n h = record { whole = by z; rest = floor_mod_lt z n h }
         ap (λ x. x *ℤ pos n) (sym (sub_neg 0 (suc q) q (omega arith))) ∙ sub_times 0 (suc q) n in
         sym (ap (λ x. x +ℤ pos r) product ∙ sub_plus (0 * n) (suc q * n) r
         ∙ sub_neg (0 * n + r) (suc q * n) a (omega (arith, div-add-mod' a n, mod-lt a h)))
-
--- a quotient as a call hands it on
-pub quotient_held : {z q : ℤ} (n : ℕ) → SFits w64 z → SFits w64 q → q ≡ floor_div (to_z w64 (of_z w64 z)) n → to_z w64 (of_z w64 q) ≡ floor_div z n
-quotient_held n z q e = to_z-of_z q ∙ e ∙ ap (λ z. floor_div z n) (to_z-of_z z)

@@ -1,12 +1,12 @@
 -- for the crates above
 pub mod Laws
 -- T and X
-pub mod Greatest
 pub mod Rules
-pub mod Entries
 -- division of signed numbers
 pub mod Division
+pub mod Widths
 -- extremes, sums and averages
+pub mod Order
 pub mod Widening
 pub mod Spread
 pub mod Sums

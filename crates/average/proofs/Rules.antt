@@ -10,7 +10,7 @@ use lib.Arith.{lt→nleb}
 use Rattle.number.proofs.Laws.{IsMantissa}
 use Rattle.average.specs.Tables.{log_test, log_of, root_test, root_of}
 use Rattle.average.specs.Claims.{LogsAreNearest, NoTie, RootsAreGreatest}
-use Rattle.average.proofs.Greatest.{greatest_le, passes, fails_next, reaches}
+use Rattle.table.proofs.Greatest.{greatest_le, passes, fails_next, reaches}
 
 pub log_le : (M : ℕ) → log_of M ≤ 2047
 unfolding log_of

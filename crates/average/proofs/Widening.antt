@@ -12,12 +12,12 @@ use lib.ListN.{length}
 use borrow.Author.Tests.{leb-true, leb-false, le-leb, lt-leb}
 use Rattle.number.proofs.Laws.{Every, every_map, Occurs, every_occurs, AtMost, IsMantissa, unit, stored_worth, by_code}
 use Rattle.number.specs.declared.ratio.Stored.{Stored}
-use Rattle.average.specs.declared.tally.Extremes.{Extremes}
-use Rattle.average.specs.declared.tally.Extremes.TheVariants.{Absent, Both}
-use Rattle.average.specs.Tallies.{darker, brighter, join_extremes, extremes_of}
+use Rattle.average.specs.Tallies.{darker, brighter, ◌up_to◌, join_extremes, extremes_of}
 use Rattle.luminance.specs.Pixels.{IsLuminance}
 use Rattle.average.specs.loops.Sums.{HaveMantissas}
 use Rattle.average.specs.Claims.{Between, AreExtremes, HasExtremes, ExtremesHold, ExtremesAreOne}
+use Rattle.std.specs.Prelude.{None, Option, Some}
+use Rattle.average.specs.declared.tally.Extremes.{Extremes}
 
 -- a worth, as the tests of `darker` and `brighter` compare it
 abbrev size : Stored → ℕ
@@ -82,9 +82,9 @@ extremes_hold (y ∷ ys) = by (extremes_of ys) (extremes_hold ys)
     }
     alone (x ∷ xs) e = absurd (omega (arith, e))
 
-    by : (e : Extremes) → HasExtremes e ys → HasExtremes (join_extremes (Both y y) e) (y ∷ ys)
-    by Absent h = alone ys h
-    by (Both d b) h = one_more y d b ys h
+    by : (e : Option Extremes) → HasExtremes e ys → HasExtremes (join_extremes (Some (y up_to y)) e) (y ∷ ys)
+    by None h = alone ys h
+    by (Some e) h = one_more y e.darkest e.brightest ys h
 
 -- both are luminances, and so they have mantissas
 pub extremes_mantissas : (ys : List Stored) → Every IsLuminance ys → HaveMantissas (extremes_of ys)
@@ -93,9 +93,9 @@ extremes_mantissas ys valid = by (extremes_of ys) (extremes_hold ys)
     lit : (y : Stored) → Occurs y ys → IsMantissa y.mantissa
     lit y o = (every_occurs IsLuminance ys y valid o).mantissa
 
-    by : (e : Extremes) → HasExtremes e ys → HaveMantissas e
-    by Absent h = tt
-    by (Both d b) h = (lit d h.darkest_occurs, lit b h.brightest_occurs)
+    by : (e : Option Extremes) → HasExtremes e ys → HaveMantissas e
+    by None h = tt
+    by (Some e) h = (lit e.darkest h.darkest_occurs, lit e.brightest h.brightest_occurs)
 
 -- ---- no other two
 
@@ -149,11 +149,12 @@ brighter_assoc x y z = by (leb (size x) (size y)) (leb (size y) (size z)) refl r
     by false true e f = refl
     by false false e f = rw (e, lt-leb (size x) (size z) (lt_trans (leb-false _ _ f) (leb-false _ _ e)))
 
-join_extremes_assoc : (e f g : Extremes) → join_extremes (join_extremes e f) g ≡ join_extremes e (join_extremes f g)
-join_extremes_assoc Absent f g = refl
-join_extremes_assoc (Both d b) Absent g = refl
-join_extremes_assoc (Both d b) (Both d' b') Absent = refl
-join_extremes_assoc (Both d b) (Both d' b') (Both d'' b'') = rw (darker_assoc d d' d'', brighter_assoc b b' b'')
+join_extremes_assoc : (e f g : Option Extremes) → join_extremes (join_extremes e f) g ≡ join_extremes e (join_extremes f g)
+join_extremes_assoc None f g = refl
+join_extremes_assoc (Some e) None g = refl
+join_extremes_assoc (Some e) (Some f) None = refl
+join_extremes_assoc (Some e) (Some f) (Some g) =
+    rw (darker_assoc e.darkest f.darkest g.darkest, brighter_assoc e.brightest f.brightest g.brightest)
 
 -- ---- lists one after the other
 
@@ -161,4 +162,4 @@ pub extremes_append : (xs ys : List Stored) → extremes_of (xs ++ ys) ≡ join_
 unfolding extremes_of
 extremes_append [] ys = refl
 extremes_append (x ∷ xs) ys =
-    ap (join_extremes (Both x x)) (extremes_append xs ys) ∙ sym (join_extremes_assoc (Both x x) (extremes_of xs) (extremes_of ys))
+    ap (join_extremes (Some (x up_to x))) (extremes_append xs ys) ∙ sym (join_extremes_assoc (Some (x up_to x)) (extremes_of xs) (extremes_of ys))

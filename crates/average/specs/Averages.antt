@@ -1,12 +1,11 @@
 -- Steps 2 and 3: the steps of a luminance, their average and the stored average. Assumes nothing.
-use Rattle.std.specs.Prelude.{cond, List, [], ◌∷◌, ℕ, ◌+◌, ◌-◌, ◌*◌, ◌/◌, ◌%◌, ◌≤◌, eqb, ℤ, pos, negsuc, neg_ℤ, nat_abs, ◌+ℤ◌, ◌≤ℤ◌}
+use Rattle.std.specs.Prelude.{cond, None, Option, Some, List, [], ◌∷◌, ℕ, ◌+◌, ◌-◌, ◌*◌, ◌/◌, ◌%◌, ◌≤◌, eqb, ℤ, pos, negsuc, neg_ℤ, nat_abs, ◌+ℤ◌, ◌≤ℤ◌}
 use Rattle.std.proofs.Math.IntN.{sub_ℕ}
 use Rattle.refusal.specs.Told.{Told, holding}
 use Rattle.number.proofs.Laws.{IsMantissa}
 use Rattle.number.specs.declared.ratio.Stored.{Stored}
 use Rattle.average.specs.Tables.{log_of, root_of}
 use Rattle.average.specs.declared.average.Average.{Average}
-use Rattle.average.specs.declared.average.Average.TheVariants.{Absent, Present}
 
 -- "Steps of a lit pixel: 256(E−136) + T[M]."
 abbrev pub steps_of : Stored → ℤ
@@ -30,20 +29,25 @@ stored_average A =
     (record { exponent = nat_abs (floor_div A 256 +ℤ pos 128); mantissa = 255 })
     (record { exponent = nat_abs (floor_div A 256 +ℤ pos 129); mantissa = root_of (floor_mod A 256) })
 
+-- an average in steps, with the stored one
+infix 40 ◌stored_as◌
+abbrev pub ◌stored_as◌ : ℤ → Stored → Average
+A stored_as a = record { steps = A; stored = a }
+
 -- "Average A: the sum of steps over the N lit pixels, divided by N"
 abbrev pub average_steps : (count : ℕ) (sum : ℤ) → ℤ
 average_steps count sum = floor_div sum count
 
 -- with the stored average. "If N = 0 .. the average is reported as absent".
-unfoldable pub average_of : (count : ℕ) (sum : ℤ) → Average
-average_of count sum = cond (eqb count 0) Absent (Present (average_steps count sum) (stored_average (average_steps count sum)))
+unfoldable pub average_of : (count : ℕ) (sum : ℤ) → Option Average
+average_of count sum = cond (eqb count 0) None (Some (average_steps count sum stored_as stored_average (average_steps count sum)))
 
 -- in numbers: whether there is an average, A, E and M; all are 0 where there is none
-abbrev pub average_values : Average → List ℤ
-average_values Absent = pos 0 ∷ pos 0 ∷ pos 0 ∷ pos 0 ∷ []
-average_values (Present A a) = pos 1 ∷ A ∷ pos a.exponent ∷ pos a.mantissa ∷ []
+abbrev pub average_values : Option Average → List ℤ
+average_values None = pos 0 ∷ pos 0 ∷ pos 0 ∷ pos 0 ∷ []
+average_values (Some a) = pos 1 ∷ a.steps ∷ pos a.stored.exponent ∷ pos a.stored.mantissa ∷ []
 
-abbrev pub average_told : Average → Told
+abbrev pub average_told : Option Average → Told
 average_told a = holding (average_values a)
 
 -- the averages that there are: a luminance has from −15,630 to 14,335 steps

@@ -2,16 +2,14 @@
 -- logarithm of the mean. Assumes nothing. Proved as `logs_nearest`, `no_tie` and `roots_greatest` (proofs/Rules.antt), `floor_divides`
 -- (proofs/Division.antt), `averages_in_range` (proofs/Averages.antt), `extremes_hold` and `extremes_one` (proofs/Widening.antt),
 -- `tallies_join` (proofs/Sums.antt) and `mean_bound` (proofs/Mean.antt).
-use Rattle.std.specs.Prelude.{◌≡◌, List, [], ◌∷◌, ◌++◌, ℕ, ◌+◌, ◌*◌, ◌^◌, ◌≤◌, ◌<◌, ℤ, pos, neg_ℤ, ◌+ℤ◌, ◌-ℤ◌, ◌*ℤ◌, length, ◌≤ℤ◌}
+use Rattle.std.specs.Prelude.{◌≡◌, List, [], ◌∷◌, ◌++◌, ℕ, ◌+◌, ◌*◌, ◌^◌, ◌≤◌, ◌<◌, ℤ, pos, neg_ℤ, ◌+ℤ◌, ◌-ℤ◌, ◌*ℤ◌, length, ◌≤ℤ◌, None, Option, Some}
 use Rattle.number.proofs.Laws.{Every, Occurs, Frac, ◌over◌, ◌·◌, power, two_to_the, AtMost, Below, stored_worth}
 use Rattle.number.specs.declared.ratio.Stored.{Stored}
 use Rattle.luminance.specs.Pixels.{IsLuminance}
 use Rattle.average.specs.Tallies.{sum_of, tally_of, join}
 use Rattle.average.specs.Tables.{log_of, root_of}
-use Rattle.average.specs.Averages.{floor_div, floor_mod, average_of, IsStoredAverage}
-use Rattle.average.specs.declared.average.Average.TheVariants.{Present}
+use Rattle.average.specs.Averages.{floor_div, floor_mod, ◌stored_as◌, average_of, IsStoredAverage}
 use Rattle.average.specs.declared.tally.Extremes.{Extremes}
-use Rattle.average.specs.declared.tally.Extremes.TheVariants.{Absent, Both}
 
 -- ---- steps 2 and 3
 
@@ -54,7 +52,7 @@ pub record AverageRange (A : ℤ) (average : Stored) : Type 0 where
 -- for every list of luminances, up to many more than a page has, and the average that its tally reports
 abbrev pub AveragesInRange : Type 0
 AveragesInRange = (ys : List Stored) → Every IsLuminance ys → length ys ≤ 2 ^ 40
-    → (A : ℤ) (average : Stored) → average_of (length ys) (sum_of ys) ≡ Present A average → AverageRange A average
+    → (A : ℤ) (average : Stored) → average_of (length ys) (sum_of ys) ≡ Some (A stored_as average) → AverageRange A average
 
 -- ---- the extremes of a tally
 
@@ -70,9 +68,9 @@ pub record AreExtremes (darkest brightest : Stored) (ys : List Stored) : Type 0 
   pub between : Every (Between darkest brightest) ys
 
 -- absent exactly where there is no luminance: what occurs is one
-abbrev pub HasExtremes : Extremes → List Stored → Type 0
-HasExtremes Absent ys = length ys ≡ 0
-HasExtremes (Both darkest brightest) ys = AreExtremes darkest brightest ys
+abbrev pub HasExtremes : Option Extremes → List Stored → Type 0
+HasExtremes None ys = length ys ≡ 0
+HasExtremes (Some e) ys = AreExtremes e.darkest e.brightest ys
 
 -- of the tally of every list
 abbrev pub ExtremesHold : Type 0
@@ -112,4 +110,4 @@ MeanBound A ys = MeanWithin 2 1 3 A ys
 -- for every list of luminances and the A that its tally reports: none, where the list is empty
 abbrev pub MeanIsBounded : Type 0
 MeanIsBounded = (ys : List Stored) → Every IsLuminance ys
-    → (A : ℤ) (average : Stored) → average_of (length ys) (sum_of ys) ≡ Present A average → MeanBound A ys
+    → (A : ℤ) (average : Stored) → average_of (length ys) (sum_of ys) ≡ Some (A stored_as average) → MeanBound A ys

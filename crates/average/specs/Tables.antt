@@ -1,10 +1,6 @@
 -- The tables T and X, by their rules. Assumes nothing.
-use Rattle.std.specs.Prelude.{Bool, cond, ℕ, zero, suc, ◌+◌, ◌*◌, ◌^◌, leb}
-
--- the greatest number up to n that passes the test, and 0 where none does
-unfoldable pub greatest : (ℕ → Bool) → ℕ → ℕ
-greatest test zero = zero
-greatest test (suc n) = cond (test (suc n)) (suc n) (greatest test n)
+use Rattle.std.specs.Prelude.{Bool, ℕ, ◌+◌, ◌*◌, ◌^◌, leb}
+use Rattle.table.specs.Tables.{greatest}
 
 -- "T[M] becomes the whole number nearest to 256 · log2(M + 1/2)": the greatest t that lies at most half a step above it, 2t − 1 ≤
 -- 512 · log2(M + 1/2), which is 2^(2t − 1 + 512) ≤ (2M+1)^512; for M from 1. No M up to 255 has a t above 2047.

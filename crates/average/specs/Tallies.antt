@@ -1,11 +1,10 @@
 -- The tally of a list of lit pixels' luminances: their count, the sum of their steps, the darkest and the brightest. Assumes nothing.
-use Rattle.std.specs.Prelude.{cond, List, [], ◌∷◌, ◌+◌, ℤ, pos, ◌+ℤ◌, length}
+use Rattle.std.specs.Prelude.{cond, None, Option, Some, List, [], ◌∷◌, ◌+◌, ℤ, pos, ◌+ℤ◌, length}
 use Rattle.number.proofs.Laws.{at_most, stored_worth}
 use Rattle.number.specs.declared.ratio.Stored.{Stored}
 use Rattle.average.specs.Averages.{steps_of}
-use Rattle.average.specs.declared.tally.Extremes.{Extremes}
-use Rattle.average.specs.declared.tally.Extremes.TheVariants.{Absent, Both}
 use Rattle.average.specs.declared.tally.Tally.{Tally}
+use Rattle.average.specs.declared.tally.Extremes.{Extremes}
 
 -- the sum of their steps
 unfoldable pub sum_of : List Stored → ℤ
@@ -20,28 +19,33 @@ darker x y = cond (at_most (stored_worth x) (stored_worth y)) x y
 abbrev pub brighter : Stored → Stored → Stored
 brighter x y = cond (at_most (stored_worth x) (stored_worth y)) y x
 
+-- the darkest and the brightest
+infix 40 ◌up_to◌
+abbrev pub ◌up_to◌ : Stored → Stored → Extremes
+d up_to b = record { darkest = d; brightest = b }
+
 -- of two lists, from theirs
-abbrev pub join_extremes : Extremes → Extremes → Extremes
-join_extremes Absent e = e
-join_extremes (Both d b) Absent = Both d b
-join_extremes (Both d b) (Both d' b') = Both (darker d d') (brighter b b')
+abbrev pub join_extremes : Option Extremes → Option Extremes → Option Extremes
+join_extremes None e = e
+join_extremes (Some e) None = Some e
+join_extremes (Some e) (Some f) = Some (darker e.darkest f.darkest up_to brighter e.brightest f.brightest)
 
 -- of a list. "On a page with no lit pixel both are absent."
-unfoldable pub extremes_of : List Stored → Extremes
-extremes_of [] = Absent
-extremes_of (y ∷ ys) = join_extremes (Both y y) (extremes_of ys)
+unfoldable pub extremes_of : List Stored → Option Extremes
+extremes_of [] = None
+extremes_of (y ∷ ys) = join_extremes (Some (y up_to y)) (extremes_of ys)
 
 -- each by itself: (0,0), which no luminance is, where it is absent
-abbrev pub darkest_of : Extremes → Stored
-darkest_of Absent = record { exponent = 0; mantissa = 0 }
-darkest_of (Both d b) = d
+abbrev pub darkest_of : Option Extremes → Stored
+darkest_of None = record { exponent = 0; mantissa = 0 }
+darkest_of (Some e) = e.darkest
 
-abbrev pub brightest_of : Extremes → Stored
-brightest_of Absent = record { exponent = 0; mantissa = 0 }
-brightest_of (Both d b) = b
+abbrev pub brightest_of : Option Extremes → Stored
+brightest_of None = record { exponent = 0; mantissa = 0 }
+brightest_of (Some e) = e.brightest
 
 -- in numbers: E and M of the darkest, then of the brightest
-abbrev pub extremes_values : Extremes → List ℤ
+abbrev pub extremes_values : Option Extremes → List ℤ
 extremes_values e =
     pos (darkest_of e).exponent ∷ pos (darkest_of e).mantissa ∷ pos (brightest_of e).exponent ∷ pos (brightest_of e).mantissa ∷ []
 

@@ -3,15 +3,15 @@ ghost use Rattle.std.specs.Prelude.{◌≡◌, ◌<◌, pos, nat_abs, ◌+ℤ◌
 ghost use Rattle.average.specs.Averages.{stored_average, average_steps, average_of, IsAverage, average_told};
 ghost use Rattle.average.specs.loops.Sums.{HasAverage};
 
-use crate::floor::{floor_div, floor_mod};
+use crate::floor::floor_div;
 use crate::tables::root;
 use number::ratio::Stored;
 
-// The average in steps with the stored average, or none where no pixel is lit.
+// The average of one luminance or more: in steps, and stored.
 #[derive(Clone, Copy)]
-pub enum Average {
-    Absent,
-    Present(i64, Stored),
+pub struct Average {
+    pub steps: i64,
+    pub stored: Stored,
 }
 
 // The exponent q + bias.
@@ -28,8 +28,8 @@ fn stored_average(steps: i64) -> Stored
     requires { IsAverage steps }
     ensures { result ≡ stored_average steps }
 {
-    let q = floor_div(steps, 256);
-    let f = floor_mod(steps, 256);
+    let q = steps.div_euclid(256);
+    let f = steps.rem_euclid(256);
     if f == 0 {
         return Stored {
             exponent: exponent(q, 128),
@@ -50,16 +50,19 @@ pub fn lit_average(count: u64, sum: i64) -> Stored
     stored_average(floor_div(sum, count))
 }
 
-// The average of `count` luminances whose steps add up to `sum`.
+// The average of `count` luminances whose steps add up to `sum`; none where there are none.
 #[tactic(auto, unfolding(crate::specs::Averages::average_of))]
-pub fn average_of(count: u64, sum: i64) -> Average
+pub fn average_of(count: u64, sum: i64) -> Option<Average>
     requires { HasAverage count sum }
     ensures answer { result ≡ average_of count sum }
     ensures told { average_told result ≡ average_told (average_of count sum) }
 {
     if count == 0 {
-        return Average::Absent;
+        return None;
     }
     let steps = floor_div(sum, count);
-    Average::Present(steps, stored_average(steps))
+    Some(Average {
+        steps,
+        stored: stored_average(steps),
+    })
 }

@@ -1,7 +1,7 @@
 // The tables T and X, each proved by one test over all its entries.
 ghost use Rattle.std.specs.Prelude.{◌≡◌};
 ghost use Rattle.average.specs.Tables.{root_of};
-ghost use Rattle.average.specs.loops.Entries.{IsLogTable, IsRootTable};
+ghost use Rattle.average.specs.loops.Entries.{IsLogTable};
 
 // T[M] of the mantissas 128 to 255, at M - 128.
 const LOG_STEPS: [u16; 128] = [
@@ -40,17 +40,9 @@ pub fn log_table() -> [u16; 128]
     LOG_STEPS
 }
 
-// The table X by value.
-fn root_table() -> [u8; 256]
-    ensures { IsRootTable result }
-{
-    ROOTS
-}
-
 // X[f].
 pub fn root(f: u8) -> u8
     ensures { result ≡ root_of f }
 {
-    let roots = root_table();
-    roots[f as usize]
+    ROOTS[f as usize]
 }

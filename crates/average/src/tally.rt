@@ -7,19 +7,20 @@ ghost use Rattle.average.specs.loops.Sums.{raised_steps};
 
 use number::ratio::Stored;
 
-// The darkest and the brightest luminance, in this order; none where no pixel is lit.
+// The darkest and the brightest of one luminance or more.
 #[derive(Clone, Copy)]
-pub enum Extremes {
-    Absent,
-    Both(Stored, Stored),
+pub struct Extremes {
+    pub darkest: Stored,
+    pub brightest: Stored,
 }
 
-// A tally: how many pixels are lit, the sum of their steps, and their extremes.
+// A tally: how many pixels are lit, the sum of their steps, and their extremes; none where no pixel is lit. What it keeps to (`IsTally`) stays
+// a premise, not an invariant: the public calls that take one, listed in docs/DECISIONS.md, promise for any that does.
 #[derive(Clone, Copy)]
 pub struct Tally {
     pub count: u64,
     pub sum: i64,
-    pub extremes: Extremes,
+    pub extremes: Option<Extremes>,
 }
 
 // The steps of a luminance, 256(E - 136) + T[M], and 34,816 more, so that they are not negative.

@@ -8,11 +8,12 @@ use native.Mathlib.Omega.{arith}
 use borrow.Author.Tests.{eqb-true, leb-true}
 use lib.ListN.{length}
 use Rattle.number.proofs.Laws.{Every}
-use Rattle.refusal.specs.declared.Verdict.TheVariants.{Accepted}
+use Rattle.std.specs.Prelude.{Ok, Err, IsOk}
+use Rattle.refusal.specs.Verdicts.{Verdict, accepted}
 use Rattle.refusal.proofs.Laws.{require_passed, and_passed}
 use Rattle.word.specs.declared.header.Header.{Header}
 use Rattle.word.specs.Words.{size_fits}
-use Rattle.white.specs.declared.White.{White}
+use Rattle.white.specs.Whites.{White}
 use Rattle.white.proofs.Limits.{both_true, white_same}
 use Rattle.strip.specs.Checks.{header_fields}
 use Rattle.strip.specs.Reading.{strip_pixels}
@@ -44,7 +45,7 @@ pub record Joined (first : Header) (above : ℕ) (b : Standing) : Type 0 where
   pub band : IsBand first b
   pub fits : size_fits first.width (above + (band_header b).height) ≡ true
 
-pub band_accepted : (first : Header) (above : ℕ) (b : Standing) → check_band first above b ≡ Accepted → Joined first above b
+pub band_accepted : (first : Header) (above : ℕ) (b : Standing) → check_band first above b ≡ accepted → Joined first above b
 unfolding check_band joins
 band_accepted first above b e =
     let a = and_passed _ _ e in
@@ -63,7 +64,7 @@ band_accepted first above b e =
 
 -- ---- all bands
 
-pub each_accepted : (first : Header) (above : ℕ) (bs : List Standing) → check_each first above bs ≡ Accepted → Every (IsBand first) bs
+pub each_accepted : (first : Header) (above : ℕ) (bs : List Standing) → check_each first above bs ≡ accepted → Every (IsBand first) bs
 unfolding check_each
 each_accepted first above [] e = tt
 each_accepted first above (b ∷ bs) e =
@@ -71,7 +72,7 @@ each_accepted first above (b ∷ bs) e =
     ((band_accepted first above b a.0).band, each_accepted first (above + (band_header b).height) bs a.1)
 
 -- one band or more have a joined size within the limits
-joined_fits : (first : Header) (above : ℕ) (b : Standing) (bs : List Standing) → check_each first above (b ∷ bs) ≡ Accepted
+joined_fits : (first : Header) (above : ℕ) (b : Standing) (bs : List Standing) → check_each first above (b ∷ bs) ≡ accepted
     → size_fits first.width (above + joined_height (b ∷ bs)) ≡ true
 unfolding check_each joined_height
 joined_fits first above b [] e =
@@ -88,7 +89,7 @@ pub record AreBands (r : List ℕ) : Type 0 where
   pub each : Every (IsBand (header_fields r)) (series_of r)
   pub fits : size_fits (header_fields r).width (joined_height (series_of r)) ≡ true
 
-pub bands_accepted : (r : List ℕ) → check_bands r ≡ Accepted → AreBands r
+pub bands_accepted : (r : List ℕ) → check_bands r ≡ accepted → AreBands r
 unfolding check_bands
 bands_accepted r e =
     let a = require_passed _ _ _ _ e in
@@ -99,6 +100,17 @@ bands_accepted r e =
       each = each_accepted (header_fields r) 0 (series_of r) a.1;
       fits = rw next (rw zero-add at (joined_fits (header_fields r) 0 _ _ (rw next at a.1)));
     }
+
+-- a row that passed its checks
+pub passed : (r : List ℕ) → IsOk (check_bands r) → check_bands r ≡ accepted
+passed r e = by (check_bands r) e
+  where
+    by : (v : Verdict) → IsOk v → v ≡ accepted
+    by (Ok u) e = refl
+    by (Err f) e = cc
+
+pub bands_passed : (r : List ℕ) → IsOk (check_bands r) → AreBands r
+bands_passed r e = bands_accepted r (passed r e)
 
 -- ---- their pixels
 

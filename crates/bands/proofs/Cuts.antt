@@ -10,7 +10,6 @@ use lib.Seq.{length-take-le}
 use Rattle.number.specs.declared.channel.Channel.{Channel}
 use Rattle.number.specs.Channels.{IsChannel}
 use Rattle.number.proofs.Laws.{Every, every_take, every_drop}
-use Rattle.refusal.specs.declared.Verdict.TheVariants.{Accepted}
 use Rattle.refusal.proofs.Laws.{require_met, and_met}
 use Rattle.white.specs.Whites.{white_fits}
 use Rattle.white.proofs.Limits.{white_agrees}
@@ -29,6 +28,7 @@ use Rattle.bands.specs.Checks.{with_rows, joins, check_band, check_each, check_b
 use Rattle.bands.specs.Cutting.{joined_channels, tall_strip, cut_channels, cut_into}
 use Rattle.bands.specs.Claims.{AreItsBands, CutsAreBands}
 use Rattle.bands.proofs.Tall.{bands_are_tall}
+use Rattle.refusal.specs.Verdicts.{accepted}
 
 -- ---- one band after another
 
@@ -41,7 +41,7 @@ record Left (h : Header) (rows : ℕ) (ns : List ℕ) (cs : List Channel) : Type
 
 -- the bands that they are cut into, whatever the height of the first of all
 record AreCut (h : Header) (top rows : ℕ) (ns : List ℕ) (cs : List Channel) (bs : List Standing) : Type 0 where
-  accepted : check_each (with_rows h top) rows bs ≡ Accepted
+  accepted : check_each (with_rows h top) rows bs ≡ accepted
   heights : band_heights bs ≡ ns
   channels : joined_channels bs ≡ cs
 
@@ -76,7 +76,7 @@ module _ (h : Header) (size : size_fits h.width h.height ≡ true) (key : key_fi
     band_channels : strip_channels band ≡ take (channels_in n) cs
     band_channels = channels_written _ _ band_page
 
-    band_accepted : (top i : ℕ) → check_band (with_rows h top) rows (record { start = i; strip = band }) ≡ Accepted
+    band_accepted : (top i : ℕ) → check_band (with_rows h top) rows (record { start = i; strip = band }) ≡ accepted
     unfolding check_band joins check_strip
     band_accepted top i =
         let within = left.within in
@@ -84,7 +84,7 @@ module _ (h : Header) (size : size_fits h.width h.height ≡ true) (key : key_fi
         let fits = fewer_rows h.width h.height (rows + n) size (omega arith) (omega arith) in
         let met : joins (with_rows h top) rows (with_rows h n) ≡ true =
         rw (eq-eqb h.width h.width refl, eq-eqb h.key h.key refl, white_agrees h.white, fits) in
-        and_met (standing_met _ (written_accepted _ _ band_page Accepted refl))
+        and_met (standing_met _ (written_accepted _ _ band_page accepted refl))
         (require_met _ _ (ap (λ g. joins (with_rows h top) rows g) band_header_law ∙ met) refl)
 
     rest_left : Left h (rows + n) ns (drop (channels_in n) cs)

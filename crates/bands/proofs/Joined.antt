@@ -2,9 +2,7 @@
 use Prim.Native.Nat.{ℕ, ◌<◌}
 use mathlib.Core.Path.{◌≡◌, sym, subst₂, ◌∙◌}
 use mathlib.Core.List.{List}
-use Rattle.refusal.specs.declared.Refusal.{Refusal}
-use Rattle.refusal.specs.declared.Verdict.TheVariants.{Accepted, Refused}
-use Rattle.refusal.specs.Verdicts.{and_then}
+use Rattle.refusal.specs.Verdicts.{and_then, accepted}
 use Rattle.word.specs.Words.{pixels}
 use Rattle.strip.specs.Checks.{header_fields}
 use Rattle.strip.specs.Reading.{strip_pixels}
@@ -13,7 +11,6 @@ use Rattle.average.specs.loops.Sums.{IsTally}
 use Rattle.tone.specs.Levels.{IsTone}
 use Rattle.light.specs.Light.{check_light}
 use Rattle.body.proofs.Laws.{lit_count_law}
-use Rattle.page.specs.declared.tally.TallyOrRefusal.TheVariants.{Refuses}
 use Rattle.page.specs.Checks.{check_tally}
 use Rattle.page.specs.Mapping.{tone_under}
 use Rattle.page.specs.Tallying.{tally_under}
@@ -25,8 +22,10 @@ use Rattle.bands.specs.Joining.{join_tallies}
 use Rattle.bands.specs.Answers.{tally_bands}
 use Rattle.bands.proofs.Accepted.{AreBands, bands_accepted}
 use Rattle.bands.proofs.Tall.{tall_header_law, tall_whole, tall_tally, tall_checked}
+use Rattle.std.specs.Prelude.{Err}
+use Rattle.refusal.specs.declared.Fault.{Fault}
 
-module _ (r : List ℕ) (e : check_bands r ≡ Accepted) where
+module _ (r : List ℕ) (e : check_bands r ≡ accepted) where
   ok : AreBands r
   ok = bands_accepted r e
 
@@ -38,8 +37,8 @@ module _ (r : List ℕ) (e : check_bands r ≡ Accepted) where
   answered t n f g = rw (e, f, g)
 
   -- what all bands are mapped under, where a pixel is lit
-  module _ (light : check_tally_bands r ≡ Accepted) where
-    lit : check_tally (tall_strip r) ≡ Accepted
+  module _ (light : check_tally_bands r ≡ accepted) where
+    lit : check_tally (tall_strip r) ≡ accepted
     lit = sym (tall_checked r e) ∙ light
 
     pub joined_lit : 0 < (join_tallies (series_of r)).count
@@ -50,6 +49,6 @@ module _ (r : List ℕ) (e : check_bands r ≡ Accepted) where
         let s = tall_strip r in
         subst₂ (λ h t. IsTone (tone_under h t)) (tall_header_law r ok) (sym (tall_tally r ok)) (strip_tone s (tall_whole r ok) (tally_lit s lit))
 
-pub refused : (r : List ℕ) {q : Refusal} {i : ℕ} → check_bands r ≡ Refused q i → Refuses q i ≡ tally_bands r
+pub refused : (r : List ℕ) {f : Fault} → check_bands r ≡ Err f → Err f ≡ tally_bands r
 unfolding tally_bands check_tally_bands and_then
 refused r e = rw e

@@ -7,8 +7,7 @@ use native.Mathlib.Omega.{arith}
 use lib.ListN.{length, length-append}
 use Rattle.number.specs.Channels.{IsChannel}
 use Rattle.number.proofs.Laws.{Every, every_append}
-use Rattle.refusal.specs.declared.Verdict.TheVariants.{Accepted}
-use Rattle.refusal.specs.Verdicts.{and_then}
+use Rattle.refusal.specs.Verdicts.{and_then, accepted}
 use Rattle.white.specs.Whites.{white_fits}
 use Rattle.word.specs.declared.header.Header.{Header}
 use Rattle.word.specs.Words.{pixels, key_fits}
@@ -88,9 +87,9 @@ module _ (r : List ℕ) (ok : AreBands r) where
         valid = row_valid (header_fields r) (series_of r) ok.each;
       }
 
-  pub tall_accepted : check_strip (tall_strip r) ≡ Accepted
+  pub tall_accepted : check_strip (tall_strip r) ≡ accepted
   unfolding check_strip
-  tall_accepted = written_accepted _ _ tall_page Accepted refl
+  tall_accepted = written_accepted _ _ tall_page accepted refl
 
   pub tall_header_law : header_fields (tall_strip r) ≡ tall_header r
   tall_header_law = header_written _ _ tall_page
@@ -125,7 +124,7 @@ module _ (r : List ℕ) (ok : AreBands r) where
       ∙ ap (λ h. levels_under (tone_under h (strip_tally s)) (strip_pixels s)) (sym tall_header_law)
 
 -- the checks of the tally of an accepted row are those of the tall strip's
-pub tall_checked : (r : List ℕ) → check_bands r ≡ Accepted → check_tally_bands r ≡ check_tally (tall_strip r)
+pub tall_checked : (r : List ℕ) → check_bands r ≡ accepted → check_tally_bands r ≡ check_tally (tall_strip r)
 unfolding check_tally_bands and_then
 tall_checked r e =
     let ok = bands_accepted r e in

@@ -1,12 +1,14 @@
 -- Walks over accepted bands: what the bands that were passed come to. Assumes nothing.
-use Prim.Native.Nat.{ℕ, ◌+◌, ◌-◌, ◌*◌, ◌≤◌, ◌<◌, min}
-use mathlib.Core.Path.{◌≡◌, refl, sym, ap, subst, ◌∙◌}
-use mathlib.Core.List.{List, [], ◌++◌, append_assoc, append-nil, flat_map}
+use Prim.Native.Nat.{ℕ, ◌+◌, ◌-◌, ◌*◌, ◌≤◌, min}
+use mathlib.Core.Path.{◌≡◌, refl, sym, ap, ◌∙◌}
+use mathlib.Core.List.{List, [], ◌∷◌, ◌++◌, append_assoc, append-nil, flat_map}
 use native.Mathlib.Omega.{arith}
 use lib.ListN.{length, length-append}
 use Rattle.number.specs.declared.channel.Pixel.{Pixel}
 use Rattle.number.proofs.Laws.{Every, every_append}
 use Rattle.refusal.specs.Output.{onto}
+use Rattle.std.specs.Prelude.{IsOk}
+use Rattle.word.specs.Words.{pixels}
 use Rattle.word.specs.Pixels.{word_pixels}
 use Rattle.strip.specs.Checks.{header_fields, body_part}
 use Rattle.strip.specs.Reading.{strip_pixels}
@@ -24,82 +26,88 @@ use Rattle.body.specs.Levels.{levels_under}
 use Rattle.body.specs.loops.Indices.{IsBody, indices_of}
 use Rattle.body.proofs.Laws.{lit_count_law, lit_append, luminances_few, every_luminance, tally_join}
 use Rattle.page.proofs.Laws.{strip_body, strip_valid}
-use Rattle.series.specs.Series.{series_of, strip_at, standing_at}
-use Rattle.series.specs.loops.Walks.{series_from}
-use Rattle.series.proofs.Laws.{series_next, series_over}
+use Rattle.series.specs.Series.{Standing, series_of}
 use Rattle.bands.specs.Joining.{join_tallies}
 use Rattle.bands.specs.loops.Walks.{joined_pixels}
-use Rattle.bands.proofs.Accepted.{IsBand, AreBands, tallies_of}
-use Rattle.bands.proofs.Tall.{few_pixels}
+use Rattle.bands.specs.Checks.{tall_header, check_bands}
+use Rattle.bands.proofs.Accepted.{IsBand, AreBands, bands_passed, tallies_of}
+use Rattle.bands.proofs.Tall.{count_all, few_pixels}
 
--- ---- where a walk stands: `passed` are the pixels of the bands that were passed
+-- ---- where a walk stands: `left` are the bands that are left, `passed` the pixels of those that were passed
 
-pub record Walked (r : List ℕ) (i : ℕ) (passed : List Pixel) : Type 0 where
-  pub bands : Every (IsBand (header_fields r)) (series_from r i)
+pub record Walked (r : List ℕ) (left : List Standing) (passed : List Pixel) : Type 0 where
+  pub bands : Every (IsBand (header_fields r)) left
   pub valid : Every IsPixel passed
-  pub all : passed ++ joined_pixels (series_from r i) ≡ joined_pixels (series_of r)
+  pub all : passed ++ joined_pixels left ≡ joined_pixels (series_of r)
 
-module _ (r : List ℕ) (ok : AreBands r) where
-  pub walked_none : Walked r 0 []
-  walked_none = record { bands = ok.each; valid = tt; all = refl }
+module _ (r : List ℕ) (e : IsOk (check_bands r)) where
+  ok : AreBands r
+  ok = bands_passed r e
 
-  module _ {i : ℕ} {ps : List Pixel} (w : Walked r i ps) where
+  pub walked_none : {left : List Standing} → left ≡ series_of r → Walked r left []
+  walked_none n = rw n (record { bands = ok.each; valid = tt; all = refl })
+
+  module _ {left : List Standing} {ps : List Pixel} (w : Walked r left ps) where
     -- no more pixels than the page has
     pub few_passed : length ps ≤ 16777216
     few_passed =
         let few = few_pixels r ok in
-        let all = length-append ps (joined_pixels (series_from r i)) in
+        let all = length-append ps (joined_pixels left) in
         omega (arith, ap length w.all)
 
-    pub walked_all : length r ≤ i → ps ≡ joined_pixels (series_of r)
+    pub walked_all : left ≡ [] → ps ≡ joined_pixels (series_of r)
     unfolding flat_map
-    walked_all h = sym (append-nil ps) ∙ (rw (series_over r i h) at w.all)
+    walked_all n = sym (append-nil ps) ∙ (rw n at w.all)
 
-    module _ (h : i < length r) where
-      first_left : IsBand (header_fields r) (standing_at r i) × Every (IsBand (header_fields r)) (series_from r (i + length (strip_at r i)))
-      first_left = subst (Every (IsBand (header_fields r))) (series_next r i h) w.bands
+    -- the next band, and its words
+    module _ {b : Standing} {bs : List Standing} (n : left ≡ b ∷ bs) {words : List ℕ} (f : words ≡ body_part b.strip) where
+      whole : Whole b.strip
+      whole = (rw n at w.bands).0.whole
 
-      -- the band where it stands, and its words
-      module _ {band words : List ℕ} (b : band ≡ strip_at r i) (e : words ≡ body_part band) where
-        whole : Whole band
-        whole = rw b first_left.0.whole
+      pub words_body : IsBody words
+      words_body = rw f (strip_body b.strip whole)
 
-        pub words_body : IsBody words
-        words_body = rw e (strip_body band whole)
+      words_pixels : word_pixels words ≡ strip_pixels b.strip
+      words_pixels = rw f (sym (pixels_in b.strip whole.channels))
 
-        words_pixels : word_pixels words ≡ strip_pixels band
-        words_pixels = rw e (sym (pixels_in band whole.channels))
+      words_valid : Every IsPixel (word_pixels words)
+      words_valid = rw words_pixels (strip_valid b.strip whole)
 
-        words_valid : Every IsPixel (word_pixels words)
-        words_valid = rw words_pixels (strip_valid band whole)
+      pub walked_next : Walked r bs (ps ++ word_pixels words)
+      unfolding flat_map
+      walked_next =
+          record {
+            bands = (rw n at w.bands).1;
+            valid = every_append IsPixel ps (word_pixels words) w.valid words_valid;
+            all = append_assoc ps (word_pixels words) (joined_pixels bs) ∙ rw words_pixels (rw n at w.all);
+          }
 
-        pub walked_next : Walked r (i + length band) (ps ++ word_pixels words)
-        unfolding flat_map
-        walked_next =
-            record {
-              bands = rw b first_left.1;
-              valid = every_append IsPixel ps (word_pixels words) w.valid words_valid;
-              all =
-                  append_assoc ps (word_pixels words) (joined_pixels (series_from r (i + length band)))
-                  ∙ rw (words_pixels ∙ ap strip_pixels b, b) (sym (ap (λ ss. ps ++ joined_pixels ss) (series_next r i h)) ∙ w.all);
-            }
+      -- three words a pixel; the bytes of all pixels so far are not more than the page's
+      words_three : length words ≡ 3 * length (word_pixels words)
+      words_three =
+          let n = length_body b.strip whole.head in
+          let m = count_pixels b.strip whole in
+          rw (words_pixels, f) (omega arith)
 
-        -- three words a pixel; the bytes of all pixels so far are not more than the page's
-        pub words_three : length words ≡ 3 * length (word_pixels words)
-        words_three =
-            let n = length_body band whole.head in
-            let m = count_pixels band whole in
-            rw (words_pixels, e) (omega arith)
+      words_room : 3 * length ps + 3 * length (word_pixels words) ≤ 3 * length (joined_pixels (series_of r))
+      words_room =
+          let all = ap length walked_next.all in
+          let front = length-append (ps ++ word_pixels words) (joined_pixels bs) in
+          let long = length-append ps (word_pixels words) in
+          omega arith
 
-        pub words_room : 3 * length ps + 3 * length (word_pixels words) ≤ 3 * length (joined_pixels (series_of r))
-        words_room =
-            let all = ap length walked_next.all in
-            let front = length-append (ps ++ word_pixels words) (joined_pixels (series_from r (i + length band))) in
-            let long = length-append ps (word_pixels words) in
-            omega arith
+      module _ {done : ℕ} (at : done ≡ 3 * length ps) where
+        pub words_next : done + length words ≡ 3 * length (ps ++ word_pixels words)
+        words_next = omega (arith, words_three, length-append ps (word_pixels words))
 
-        pub words_within : {done n : ℕ} → done ≡ 3 * length ps → 3 * length (joined_pixels (series_of r)) ≤ n → done + length words ≤ n
-        words_within at fits = omega (arith, words_three, words_room, at, fits)
+        pub words_within : {n : ℕ} → 3 * length (joined_pixels (series_of r)) ≤ n → done + length words ≤ n
+        words_within fits = omega (arith, words_three, words_room, at, fits)
+
+        pub words_fit : {n : ℕ} → 3 * pixels (tall_header r) ≤ n → done + length words ≤ n
+        words_fit fits = words_within (rw (count_all r ok) fits)
+
+        pub words_few : done + length words ≤ 50331648
+        words_few = words_within (omega (arith, few_pixels r ok))
 
 -- ---- their tallies joined
 
@@ -109,62 +117,63 @@ pixels_tally ps valid few =
 
 module _
     (r : List ℕ)
-    (ok : AreBands r)
-    {i : ℕ}
+    (e : IsOk (check_bands r))
+    {left : List Standing}
     {ps : List Pixel}
-    (w : Walked r i ps)
+    (w : Walked r left ps)
     {t : Tally}
     (tally : t ≡ tally_of (luminances_of ps))
-    (h : i < length r)
-    {band words : List ℕ}
-    (b : band ≡ strip_at r i)
-    (e : words ≡ body_part band)
+    {b : Standing}
+    {bs : List Standing}
+    (n : left ≡ b ∷ bs)
+    {words : List ℕ}
+    (f : words ≡ body_part b.strip)
     {u : Tally}
-    (f : u ≡ tally_of (luminances_of (word_pixels words))) where
+    (g : u ≡ tally_of (luminances_of (word_pixels words))) where
   pub both_tallies : IsTally t × IsTally u
   both_tallies =
-      let few = few_passed r ok (walked_next r ok w h b e) in
+      let few = few_passed r e (walked_next r e w n f) in
       let long = length-append ps (word_pixels words) in (
-        rw tally (pixels_tally ps w.valid (few_passed r ok w)),
-        rw f (pixels_tally (word_pixels words) (words_valid r ok w h b e) (omega (arith, few, long))),
+        rw tally (pixels_tally ps w.valid (few_passed r e w)),
+        rw g (pixels_tally (word_pixels words) (words_valid r e w n f) (omega (arith, few, long))),
       )
 
   pub tally_next : {v : Tally} → v ≡ join t u → v ≡ tally_of (luminances_of (ps ++ word_pixels words))
-  tally_next g = g ∙ rw (tally, f) (sym (tally_join ps (word_pixels words)))
+  tally_next h = h ∙ rw (tally, g) (sym (tally_join ps (word_pixels words)))
 
-pub tally_all : (r : List ℕ) (ok : AreBands r) {i : ℕ} {ps : List Pixel} {t : Tally} → Walked r i ps → t ≡ tally_of (luminances_of ps)
-    → length r ≤ i → t ≡ join_tallies (series_of r)
-tally_all r ok w tally h = tally ∙ ap (λ ps. tally_of (luminances_of ps)) (walked_all r ok w h) ∙ sym (tallies_of (series_of r))
+pub tally_all : (r : List ℕ) → IsOk (check_bands r) → {left : List Standing} {ps : List Pixel} {t : Tally} → Walked r left ps
+    → t ≡ tally_of (luminances_of ps) → left ≡ [] → t ≡ join_tallies (series_of r)
+tally_all r e w tally n = tally ∙ ap (λ ps. tally_of (luminances_of ps)) (walked_all r e w n) ∙ sym (tallies_of (series_of r))
 
 -- ---- the walks
 
 -- tallied
-pub record Tallied (r : List ℕ) (t : Tally) (i : ℕ) : Type 0 where
+pub record Tallied (r : List ℕ) (t : Tally) (left : List Standing) : Type 0 where
   pub passed : List Pixel
-  pub walk : Walked r i passed
+  pub walk : Walked r left passed
   pub tally : t ≡ tally_of (luminances_of passed)
 
 -- tallied, with the indices of their luminances in the output's front
-pub record Kept (r old : List ℕ) (output : List ℕ) (t : Tally) (i done : ℕ) : Type 0 where
+pub record Kept (r old : List ℕ) (output : List ℕ) (t : Tally) (left : List Standing) (done : ℕ) : Type 0 where
   pub passed : List Pixel
-  pub walk : Walked r i passed
+  pub walk : Walked r left passed
   pub tally : t ≡ tally_of (luminances_of passed)
   pub at : done ≡ 3 * length passed
   pub content : output ≡ onto (indices_of passed) old
   pub long : length output ≡ length old
 
 -- mapped, with their levels there
-pub record Mapped (r : List ℕ) (tone : Tone) (old output : List ℕ) (i done : ℕ) : Type 0 where
+pub record Mapped (r : List ℕ) (tone : Tone) (old output : List ℕ) (left : List Standing) (done : ℕ) : Type 0 where
   pub passed : List Pixel
-  pub walk : Walked r i passed
+  pub walk : Walked r left passed
   pub at : done ≡ 3 * length passed
   pub content : output ≡ onto (levels_under tone passed) old
   pub long : length output ≡ length old
 
 -- their lit pixels counted, up to `most`
-pub record Counted (r : List ℕ) (most lit i : ℕ) : Type 0 where
+pub record Counted (r : List ℕ) (most lit : ℕ) (left : List Standing) : Type 0 where
   pub passed : List Pixel
-  pub walk : Walked r i passed
+  pub walk : Walked r left passed
   pub count : lit ≡ min most (lit_count passed)
 
 -- no pixel: no tally
@@ -178,8 +187,8 @@ pub counted_next : (most : ℕ) {lit more : ℕ} (ps qs : List Pixel) → lit �
     → lit + more ≡ min most (lit_count (ps ++ qs))
 counted_next most ps qs e f = omega (arith, lit_append ps qs)
 
-pub counted_all : (r : List ℕ) → AreBands r → {most lit i : ℕ} → Counted r most lit i → length r ≤ i
+pub counted_all : (r : List ℕ) → IsOk (check_bands r) → {most lit : ℕ} {left : List Standing} → Counted r most lit left → left ≡ []
     → lit ≡ min most (join_tallies (series_of r)).count
-counted_all r ok {most} c h =
-    c.count ∙ ap (λ ps. min most (lit_count ps)) (walked_all r ok c.walk h)
+counted_all r e {most} c n =
+    c.count ∙ ap (λ ps. min most (lit_count ps)) (walked_all r e c.walk n)
     ∙ ap (min most) (sym (lit_count_law (joined_pixels (series_of r))) ∙ ap (λ t. t.count) (sym (tallies_of (series_of r))))

@@ -1,10 +1,11 @@
 -- What tallying and mapping a page in bands give. Assumes nothing.
-use Rattle.std.specs.Prelude.{ℕ}
+use Rattle.std.specs.Prelude.{ℕ, Result}
 use mathlib.Core.List.{List, flat_map}
+use Rattle.refusal.specs.declared.Fault.{Fault}
 use Rattle.average.specs.declared.tally.Tally.{Tally}
 use Rattle.strip.specs.Reading.{strip_pixels}
 use Rattle.body.specs.Levels.{levels_under}
-use Rattle.page.specs.declared.tally.TallyOrRefusal.{TallyOrRefusal}
+use Rattle.page.specs.declared.tally.PageTally.{PageTally}
 use Rattle.page.specs.Tallying.{tally_under}
 use Rattle.page.specs.Mapping.{tone_under}
 use Rattle.series.specs.Series.{Standing, series_of}
@@ -12,7 +13,7 @@ use Rattle.bands.specs.Joining.{join_tallies}
 use Rattle.bands.specs.Checks.{band_header, check_tally_bands}
 
 -- what the tally of a row of bands answers: of a refused row its refusal
-unfoldable pub tally_bands : List ℕ → TallyOrRefusal
+unfoldable pub tally_bands : List ℕ → Result PageTally Fault
 tally_bands r = tally_under (check_tally_bands r) (join_tallies (series_of r))
 
 -- a band's levels under the average of a tally, with its own key and white point

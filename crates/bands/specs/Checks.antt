@@ -1,15 +1,13 @@
 -- The checks of a page in bands, in their order. Assumes nothing.
 -- "A fold-out is shot as bands of whole rows. Each band is a strip of its own with the same width and key. The bands lie one behind the other
 -- in one lent row"
-use Rattle.std.specs.Prelude.{ℕ, ◌+◌, ◌*◌, Bool, ◌&&◌, List, [], ◌∷◌, map, leb, eqb, length}
+use Rattle.std.specs.Prelude.{ℕ, ◌+◌, ◌*◌, Bool, ◌&&◌, List, [], ◌∷◌, map, leb, eqb, length, Result}
 use Rattle.refusal.specs.declared.Refusal.TheVariants.{WrongLength, SmallOutput, UnlikeBands}
-use Rattle.refusal.specs.declared.Verdict.{Verdict}
-use Rattle.refusal.specs.declared.Verdict.TheVariants.{Accepted}
-use Rattle.refusal.specs.Verdicts.{require, and_then}
+use Rattle.refusal.specs.declared.Fault.{Fault}
+use Rattle.refusal.specs.Verdicts.{Verdict, accepted, require, and_then}
 use Rattle.white.specs.Whites.{same_white}
 use Rattle.word.specs.declared.header.Header.{Header}
 use Rattle.word.specs.Words.{pixels, size_fits}
-use Rattle.strip.specs.declared.read.HeaderOrRefusal.{HeaderOrRefusal}
 use Rattle.strip.specs.Checks.{header_fields}
 use Rattle.strip.specs.Reading.{header_under}
 use Rattle.light.specs.Light.{check_light}
@@ -31,11 +29,11 @@ joins first above band =
 
 -- "21 unlike bands, place 0, [..] after that band's own checks"
 unfoldable pub check_band : (first : Header) (above : ℕ) → Standing → Verdict
-check_band first above b = and_then (check_standing b) (require (joins first above (band_header b)) UnlikeBands 0 Accepted)
+check_band first above b = and_then (check_standing b) (require (joins first above (band_header b)) UnlikeBands 0 accepted)
 
 -- band by band
 unfoldable pub check_each : (first : Header) (above : ℕ) → List Standing → Verdict
-check_each first above [] = Accepted
+check_each first above [] = accepted
 check_each first above (b ∷ bs) = and_then (check_band first above b) (check_each first (above + (band_header b).height) bs)
 
 -- "an empty row [..] is 3"; a cut band is 3 by its own checks. The first words of a row are its first band's, which declares three or more.
@@ -63,7 +61,7 @@ abbrev pub tall_header : List ℕ → Header
 tall_header r = with_rows (header_fields r) (joined_height (series_of r))
 
 -- width, joined height, key and white point; of a refused row its refusal
-abbrev pub read_bands : List ℕ → HeaderOrRefusal
+abbrev pub read_bands : List ℕ → Result Header Fault
 read_bands r = header_under (check_bands r) (tall_header r)
 
 -- ---- the checks of tallying and mapping
@@ -74,4 +72,4 @@ check_tally_bands r = and_then (check_bands r) (check_light (join_tallies (serie
 
 -- "the tray is checked last": an output of `room` bytes for "three level bytes a pixel"
 unfoldable pub check_map_bands : List ℕ → (room : ℕ) → Verdict
-check_map_bands r room = and_then (check_tally_bands r) (require (leb (3 * pixels (tall_header r)) room) SmallOutput 0 Accepted)
+check_map_bands r room = and_then (check_tally_bands r) (require (leb (3 * pixels (tall_header r)) room) SmallOutput 0 accepted)

@@ -4,3 +4,4 @@
 pub mod check;
 pub mod map;
 pub mod tally;
+mod walk;

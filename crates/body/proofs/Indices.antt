@@ -9,13 +9,12 @@ use Rattle.word.specs.Fields.{low16}
 use Rattle.word.specs.Pixels.{word_pixels}
 use Rattle.word.specs.loops.Walks.{pixel_at}
 use Rattle.word.proofs.Pixels.{length_word_pixels, pixel_at_law}
-use Rattle.luminance.specs.declared.pixel.Luminance.{Luminance}
-use Rattle.luminance.specs.declared.pixel.Luminance.TheVariants.{Unlit, Lit}
 use Rattle.luminance.specs.loops.Codes.{index_of, index_count, stored_at}
-use Rattle.luminance.specs.Pixels.{IsPixel, luminance_of, IsLuminance}
+use Rattle.luminance.specs.Pixels.{IsPixel, luminance_of, IsLuminance, Luminance}
 use Rattle.luminance.proofs.Laws.{luminance_range, index_stored, index_range}
 use Rattle.body.specs.loops.Indices.{IsBody, luminance_at, InRange, IsIndex, pixel_index, indices_of, HoldsIndices}
 use Rattle.body.proofs.Bytes.{length_indices}
+use Rattle.std.specs.Prelude.{None, Some}
 
 -- ---- a part of the words
 
@@ -36,7 +35,7 @@ pixel_codes ws body p inside =
 -- ---- any index but 0
 
 module _ {i : ℕ} (lit : i ≡ 0 → ⊥) where
-  at_lit : luminance_at i ≡ Lit (stored_at i)
+  at_lit : luminance_at i ≡ Some (stored_at i)
   unfolding luminance_at
   at_lit = rw (ne_eqb i 0 lit)
 
@@ -47,17 +46,17 @@ module _ {i : ℕ} (lit : i ≡ 0 → ⊥) where
 
 index_at : (y : Luminance) → InRange y → (luminance_at (index_of y) ≡ y) × (index_of y < index_count)
 unfolding luminance_at
-index_at Unlit h = (refl, omega arith)
-index_at (Lit y) h =
+index_at None h = (refl, omega arith)
+index_at (Some y) h =
     let range = index_range y h in
-    (rw (ne_eqb (index_of (Lit y)) 0 (λ e. omega arith), index_stored y h), range.1)
+    (rw (ne_eqb (index_of (Some y)) 0 (λ e. omega arith), index_stored y h), range.1)
 
 in_range : (p : Pixel) → IsPixel p → InRange (luminance_of p)
 in_range p valid = by (luminance_of p) refl
   where
     by : (y : Luminance) → luminance_of p ≡ y → InRange y
-    by Unlit e = tt
-    by (Lit y) e = luminance_range p valid y e
+    by None e = tt
+    by (Some y) e = luminance_range p valid y e
 
 module _ (p : Pixel) (valid : IsPixel p) where
   luminance_at_law : luminance_at (pixel_index p) ≡ luminance_of p

@@ -5,19 +5,18 @@ use Rattle.number.specs.declared.ratio.Stored.{Stored}
 use Rattle.number.proofs.Laws.{Every, stored_of}
 use Rattle.word.specs.Pixels.{pixel_of, word_channel, word_pixels}
 use Rattle.word.proofs.Pixels.{word_valid}
-use Rattle.luminance.specs.declared.pixel.Luminance.{Luminance}
-use Rattle.luminance.specs.declared.pixel.Luminance.TheVariants.{Unlit}
-use Rattle.luminance.specs.Pixels.{IsPixel, exact_luminance, any_lit, luminance_of, IsLuminance}
+use Rattle.luminance.specs.Pixels.{IsPixel, exact_luminance, any_lit, luminance_of, IsLuminance, Luminance}
 use Rattle.average.specs.Tallies.{tally_of, join}
 use Rattle.luminance.proofs.Laws.{luminance_range}
 use Rattle.body.specs.Luminances.{if_lit, luminances_of, lit_count}
 use Rattle.average.proofs.Laws.{tallies_join}
+use Rattle.std.specs.Prelude.{None, Some}
 
 -- ---- pixels one after another
 
 one_append : (y : Luminance) (ys zs : List Stored) → if_lit y (ys ++ zs) ≡ if_lit y ys ++ zs
-one_append Unlit ys zs = refl
-one_append (Luminance.Lit y) ys zs = refl
+one_append None ys zs = refl
+one_append (Some y) ys zs = refl
 
 pub luminances_append : (ps qs : List Pixel) → luminances_of (ps ++ qs) ≡ luminances_of ps ++ luminances_of qs
 unfolding luminances_of
@@ -34,12 +33,12 @@ tally_join ps qs = ap tally_of (luminances_append ps qs) ∙ tallies_join (lumin
 abbrev pub stored_luminance : Pixel → Stored
 stored_luminance p = stored_of (exact_luminance p)
 
-pub lit_luminance : (p : Pixel) → any_lit p ≡ true → luminance_of p ≡ Luminance.Lit (stored_luminance p)
+pub lit_luminance : (p : Pixel) → any_lit p ≡ true → luminance_of p ≡ Some (stored_luminance p)
 unfolding luminance_of
 lit_luminance p e = rw e
 
 count_one : (lit : Bool) (y : Stored) (ys : List Stored)
-    → length (if_lit (cond lit (Luminance.Lit y) Unlit) ys) ≡ cond lit (suc (length ys)) (length ys)
+    → length (if_lit (cond lit (Some y) None) ys) ≡ cond lit (suc (length ys)) (length ys)
 count_one true y ys = refl
 count_one false y ys = refl
 
@@ -54,8 +53,8 @@ luminances_few [] = omega arith
 luminances_few (p ∷ ps) = by (luminance_of p) (luminances_few ps)
   where
     by : (y : Luminance) → length (luminances_of ps) ≤ length ps → length (if_lit y (luminances_of ps)) ≤ suc (length ps)
-    by Unlit h = omega arith
-    by (Luminance.Lit y) h = omega arith
+    by None h = omega arith
+    by (Some y) h = omega arith
 
 pub lit_append : (ps qs : List Pixel) → lit_count (ps ++ qs) ≡ lit_count ps + lit_count qs
 lit_append ps qs =
@@ -82,5 +81,5 @@ every_luminance [] h = tt
 every_luminance (p ∷ ps) h = by (luminance_of p) refl (every_luminance ps h.1)
   where
     by : (y : Luminance) → luminance_of p ≡ y → Every IsLuminance (luminances_of ps) → Every IsLuminance (if_lit y (luminances_of ps))
-    by Unlit e t = t
-    by (Luminance.Lit y) e t = (luminance_range p h.0 y e, t)
+    by None e t = t
+    by (Some y) e t = (luminance_range p h.0 y e, t)

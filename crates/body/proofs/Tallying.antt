@@ -1,24 +1,22 @@
 -- The tally of pixels by the indices of their luminances: sums, lowest numbers, and what they come to. Assumes nothing.
-use Rattle.std.proofs.Common.{◌≡◌, ℕ, zero, suc, ◌+◌, ◌-◌, ◌*◌, ◌<◌, ◌≤◌, min, Bool, true, false, cond, leb, List, [], ◌∷◌, ◌++◌, map, length, get_or, take, drop, set, replicate, sym, refl, ap, ◌∙◌, ap₂, le_refl, add-one, arith, take-suc, ne_eqb, le-leb, leb-false, leb-true}
+use Rattle.std.proofs.Common.{◌≡◌, ℕ, zero, suc, ◌+◌, ◌-◌, ◌*◌, ◌<◌, ◌≤◌, min, Bool, true, false, cond, leb, List, [], ◌∷◌, ◌++◌, fold, map, length, get_or, take, drop, set, replicate, sym, refl, ap, ◌∙◌, ap₂, le_refl, add-one, arith, take-suc, ne_eqb, le-leb, leb-false, leb-true}
 use mathlib.Core.List.{map-append}
 use borrow.Author.Tests.{lt-leb}
 use Rattle.number.specs.declared.channel.Pixel.{Pixel}
 use Rattle.number.specs.declared.ratio.Stored.{Stored}
 use Rattle.number.proofs.Laws.{Every, IsMantissa, at_most, stored_worth, by_code}
 use Rattle.refusal.specs.Output.{onto}
-use Rattle.luminance.specs.declared.pixel.Luminance.{Luminance}
-use Rattle.luminance.specs.declared.pixel.Luminance.TheVariants.{Unlit, Lit}
-use Rattle.luminance.specs.Pixels.{IsPixel, luminance_of, IsLuminance}
+use Rattle.luminance.specs.Pixels.{IsPixel, luminance_of, IsLuminance, Luminance}
 use Rattle.luminance.specs.loops.Codes.{index_of, index_count, stored_at}
 use Rattle.luminance.proofs.Laws.{luminance_range, index_stored, index_range}
-use Rattle.average.specs.declared.tally.Extremes.TheVariants.{Both}
-use Rattle.average.specs.Tallies.{darker, brighter, join_extremes, extremes_of, tally_of}
+use Rattle.average.specs.Tallies.{darker, brighter, join_extremes, extremes_of, tally_of, ◌up_to◌}
 use Rattle.average.specs.loops.Sums.{total, raised_steps}
 use Rattle.average.proofs.Laws.{raised_most, sum_is}
 use Rattle.body.specs.Luminances.{if_lit, luminances_of}
 use Rattle.body.specs.loops.Indices.{index_list}
 use Rattle.body.specs.loops.Tallying.{steps_at, unlit_at, lowest, from_darkest, from_brightest, extremes_at, tally_from}
 use Rattle.body.proofs.Luminances.{every_luminance}
+use Rattle.std.specs.Prelude.{None, Some}
 
 -- ---- the lowest of several lists
 
@@ -44,9 +42,11 @@ lowest_set [] j x h = absurd (omega arith)
 lowest_set (y ∷ xs) zero x h = omega arith
 lowest_set (y ∷ xs) (suc j) x h = omega (arith, lowest_set xs j x (omega arith))
 
--- the numbers of a list so far, and one more of them
-pub lowest_take : (xs : List ℕ) (j : ℕ) → j < length xs → min (lowest (take j xs)) (get_or xs j 0) ≡ lowest (take (j + 1) xs)
-lowest_take xs j inside = rw (add-one j, take-suc xs j 0 inside) (sym (lowest_next (take j xs) (get_or xs j 0)))
+-- the same from the front
+pub fold_lowest : (low : ℕ) (xs : List ℕ) → low ≤ 65535 → fold (λ (low x : ℕ). min low x) low xs ≡ min low (lowest xs)
+unfolding lowest
+fold_lowest low [] h = omega arith
+fold_lowest low (x ∷ xs) h = fold_lowest (min low x) xs (omega arith) ∙ omega arith
 
 module _ (f : ℕ → ℕ) (is : List ℕ) (j : ℕ) (inside : j < length is) where
   pub low_next : (n : ℕ) → n ≡ lowest (map f (take j is)) → min n (f (get_or is j 0)) ≡ lowest (map f (take (j + 1) is))
@@ -111,7 +111,7 @@ module _ (i j : ℕ) (p : IsPlace i) (q : IsPlace j) where
 -- ---- the extremes of luminances, by their indices
 
 abbrev places : List Stored → List ℕ
-places ys = map (λ y. index_of (Lit y)) ys
+places ys = map (λ y. index_of (Some y)) ys
 
 from_darkest_law : (i : ℕ) → IsPlace i → from_darkest i ≡ i - 1
 from_darkest_law i p = omega (arith, p.least, p.most)
@@ -131,16 +131,16 @@ record Found (ys : List Stored) : Type 0 where
   pub bright_place : IsPlace brightest
   pub dark : lowest (map from_darkest (places ys)) ≡ darkest - 1
   pub bright : lowest (map from_brightest (places ys)) ≡ 65535 - brightest
-  pub both : extremes_of ys ≡ Both (stored_at darkest) (stored_at brightest)
+  pub both : extremes_of ys ≡ Some ((stored_at darkest) up_to (stored_at brightest))
 
 found : (y : Stored) (ys : List Stored) → Every IsLuminance (y ∷ ys) → Found (y ∷ ys)
 unfolding lowest extremes_of
 found y [] h =
     let range = index_range y h.0 in
-    let place : IsPlace (index_of (Lit y)) = record { least = range.0; most = range.1 } in
+    let place : IsPlace (index_of (Some y)) = record { least = range.0; most = range.1 } in
     record {
-      darkest = index_of (Lit y);
-      brightest = index_of (Lit y);
+      darkest = index_of (Some y);
+      brightest = index_of (Some y);
       dark_place = place;
       bright_place = place;
       dark = omega (arith, range.0, range.1);
@@ -148,7 +148,7 @@ found y [] h =
       both = rw (index_stored y h.0);
     }
 found y (z ∷ ys) h =
-    let i = index_of (Lit y) in
+    let i = index_of (Some y) in
     let range = index_range y h.0 in
     let place : IsPlace i = record { least = range.0; most = range.1 } in
     let f = found z ys h.1 in
@@ -162,8 +162,8 @@ found y (z ∷ ys) h =
       dark = ap₂ min (from_darkest_law i place) f.dark ∙ less_one i f.darkest;
       bright = ap (min (65535 - i)) f.bright ∙ sym (twice (min (65535 - i) (65535 - f.brightest)) (omega arith));
       both =
-          ap (join_extremes (Both y y)) f.both
-          ∙ ap₂ Both
+          ap (join_extremes (Some (y up_to y))) f.both
+          ∙ ap₂ (λ (d b : Stored). Some (d up_to b))
           (ap (λ x. darker x (stored_at f.darkest)) (sym (index_stored y h.0)) ∙ darker_at i f.darkest place d)
           (ap (λ x. brighter x (stored_at f.brightest)) (sym (index_stored y h.0)) ∙ brighter_at i f.brightest place b);
     }
@@ -191,8 +191,8 @@ module _ (f : ℕ → ℕ) (last : f 0 ≡ 65535) where
     where
       by : (y : Luminance) → lowest (map f (index_list ps)) ≡ lowest (map f (places (luminances_of ps)))
           → min (f (index_of y)) (lowest (map f (index_list ps))) ≡ lowest (map f (places (if_lit y (luminances_of ps))))
-      by Unlit e = omega (arith, last, e, lowest_most (map f (index_list ps)))
-      by (Lit y) e = omega (arith, e)
+      by None e = omega (arith, last, e, lowest_most (map f (index_list ps)))
+      by (Some y) e = omega (arith, e)
 
 -- of n pixels with these indices and luminances: how many are unlit, and the raised steps of the others
 pub record Summed (is : List ℕ) (ys : List Stored) (n : ℕ) : Type 0 where
@@ -213,18 +213,18 @@ summed (p ∷ ps) h = by (luminance_of p) refl (summed ps h.1)
   where
     by : (y : Luminance) → luminance_of p ≡ y → Summed (index_list ps) (luminances_of ps) (length ps)
         → Summed (index_of y ∷ index_list ps) (if_lit y (luminances_of ps)) (suc (length ps))
-    by Unlit e s =
+    by None e s =
         record {
           count = omega (arith, s.count);
           steps = omega (arith, s.steps);
           most = omega (arith, s.most, steps_most 0 (omega arith));
         }
-    by (Lit y) e s =
+    by (Some y) e s =
         let lit = luminance_range p h.0 y e in
         let range = index_range y lit in
-        let here : unlit_at (index_of (Lit y)) ≡ 0 = rw (ne_eqb (index_of (Lit y)) 0 (λ q. omega (arith, q, range.0))) in
-        let steps : steps_at (index_of (Lit y)) ≡ raised_steps y = ap raised_steps (index_stored y lit) in
-        let most = steps_most (index_of (Lit y)) range.1 in
+        let here : unlit_at (index_of (Some y)) ≡ 0 = rw (ne_eqb (index_of (Some y)) 0 (λ q. omega (arith, q, range.0))) in
+        let steps : steps_at (index_of (Some y)) ≡ raised_steps y = ap raised_steps (index_stored y lit) in
+        let most = steps_most (index_of (Some y)) range.1 in
         record {
           count = omega (arith, here, s.count);
           steps = more_steps _ _ _ _ _ _ (steps_at 0) here steps s.steps;

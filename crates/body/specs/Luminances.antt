@@ -1,15 +1,13 @@
 -- The luminances of pixels, and how many pixels are lit. Assumes nothing.
-use Rattle.std.specs.Prelude.{ℕ, suc, cond, List, [], ◌∷◌}
+use Rattle.std.specs.Prelude.{ℕ, suc, cond, List, [], ◌∷◌, None, Some}
 use Rattle.number.specs.declared.channel.Pixel.{Pixel}
 use Rattle.number.specs.declared.ratio.Stored.{Stored}
-use Rattle.luminance.specs.declared.pixel.Luminance.{Luminance}
-use Rattle.luminance.specs.declared.pixel.Luminance.TheVariants.{Unlit, Lit}
-use Rattle.luminance.specs.Pixels.{any_lit, luminance_of}
+use Rattle.luminance.specs.Pixels.{any_lit, luminance_of, Luminance}
 
 -- a pixel's luminance before others, where it has one
 abbrev pub if_lit : Luminance → List Stored → List Stored
-if_lit Unlit ys = ys
-if_lit (Lit y) ys = y ∷ ys
+if_lit None ys = ys
+if_lit (Some y) ys = y ∷ ys
 
 -- One list stands for pixels in their tally: the luminances of the lit ones.
 unfoldable pub luminances_of : List Pixel → List Stored

@@ -3,9 +3,7 @@ use Rattle.std.proofs.Common.{◌≡◌, ℕ, zero, suc, ◌+◌, ◌/◌, ◌%�
 use lib.Bits.{bit_or, or_add_and, and_le_l, and_le_r, or_shr, or_mod}
 use Rattle.number.specs.declared.channel.Channel.{Channel}
 use Rattle.number.specs.declared.channel.Channel.TheVariants.{Black, Lit}
-use Rattle.number.specs.declared.channel.Decoded.TheVariants.{Holds}
 use Rattle.number.specs.Channels.{IsChannel, code_of}
-use Rattle.refusal.specs.declared.Verdict.TheVariants.{Accepted}
 use Rattle.word.specs.Words.{channel_word}
 use Rattle.word.specs.Placing.{placed, first_refusal}
 use Rattle.word.specs.Fields.{decode_word}
@@ -14,12 +12,14 @@ use Rattle.word.proofs.Decoding.{word_read}
 use Rattle.word.proofs.Pixels.{word_channel_law}
 use Rattle.word.proofs.Walks.{checking, checking_all, checking_next, checking_done}
 use Rattle.channels.specs.loops.Holding.{NoFault, HoldsKind, AllHold}
+use Rattle.std.specs.Prelude.{Ok}
+use Rattle.refusal.specs.Verdicts.{accepted}
 
 -- the word of a channel holds it
-word_holds : (k w : ℕ) (c : Channel) → IsChannel c → w ≡ channel_word k (code_of c) → decode_word k w ≡ Holds (word_channel w)
+word_holds : (k w : ℕ) (c : Channel) → IsChannel c → w ≡ channel_word k (code_of c) → decode_word k w ≡ Ok (word_channel w)
 word_holds k w c t e =
-    let d : decode_word k w ≡ Holds c = rw e (word_read k c t) in
-    d ∙ ap Holds (sym (word_channel_law k w d))
+    let d : decode_word k w ≡ Ok c = rw e (word_read k c t) in
+    d ∙ ap Ok (sym (word_channel_law k w d))
 
 -- a word that lies `code` above the black word of its kind, in 32 bits
 module _ (black w code : ℕ) (wraps : (code + black) % 2 ^ 32 ≡ w) where
@@ -47,11 +47,11 @@ or_none a b none =
     (record { small = omega arith; even = omega arith }, record { small = omega arith; even = omega arith })
 
 -- where all hold, none is refused, wherever the words begin
-pub held_accepted : (start : ℕ) (ws : List ℕ) → AllHold ws 0 (length ws) → first_refusal (placed decode_word start 0 ws) ≡ Accepted
+pub held_accepted : (start : ℕ) (ws : List ℕ) → AllHold ws 0 (length ws) → first_refusal (placed decode_word start 0 ws) ≡ accepted
 held_accepted start ws h = sym (checking_done decode_word start ws (length ws) (go (length ws) (le_refl _)) (le_refl _))
   where
     go : (n : ℕ) → n ≤ length ws → checking decode_word start ws n ≡ first_refusal (placed decode_word start 0 ws)
     go zero l = checking_all _ _ _
     go (suc n) l =
         rw (← add-one n)
-        (checking_next decode_word start ws n (go n (omega arith)) (omega arith) refl (h.held n (omega arith) (omega arith)))
+        (checking_next decode_word start ws n (go n (omega arith)) (omega arith) refl (rw (h.held n (omega arith) (omega arith)) refl))

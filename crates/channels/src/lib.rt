@@ -8,8 +8,7 @@ ghost use Rattle.word.specs.loops.Kinds.{IsKinds};
 ghost use Rattle.channels.specs.loops.Holding.{QuartersHold, NoFault, HoldsKind, AllHold, BlockWithin};
 ghost use Rattle.refusal.specs.Verdicts.{report_of};
 
-use number::channel::Decoded;
-use refusal::Verdict;
+use refusal::Fault;
 use word::body::{channel_word, decode_word, verdict_at};
 use word::kinds::{BLOCK_WORDS, block_kinds};
 
@@ -19,21 +18,14 @@ const LEAST_LIT: u32 = 18560;
 // 256 times the number of exponents of lit channels, 28928, lies this much below 2^15.
 const BELOW_BIT_15: u32 = 3840;
 
-// Each bit that is set in a or in b.
-fn either(a: u32, b: u32) -> u32
-    ensures { NoFault result → NoFault a × NoFault b }
-{
-    a | b
-}
-
 // Bit 7 and the bits from 15 on are 0 only for a word that holds a channel of the kind of a black word. The 16-bit form of a lit channel
 // lies above the least one by 256 times the exponent less 72, plus the mantissa less 128: by less than 28928, with bit 7 zero.
 fn fault_bits(black: u32, word: u32) -> u32
     ensures { NoFault result → HoldsKind black word }
 {
-    let code = std::num::wrapping_sub_u32(word, black);
-    let above = std::num::wrapping_sub_u32(code, LEAST_LIT);
-    let bits = either(above, std::num::wrapping_add_u32(above, BELOW_BIT_15));
+    let code = word.wrapping_sub(black);
+    let above = code.wrapping_sub(LEAST_LIT);
+    let bits = above | above.wrapping_add(BELOW_BIT_15);
     if code == 0 { 0 } else { bits }
 }
 
@@ -41,22 +33,18 @@ fn fault_bits(black: u32, word: u32) -> u32
 fn no_fault(bits: u32) -> bool
     ensures { result ≡ true → NoFault bits }
 {
-    if 32768 <= bits {
-        return false;
-    }
-    bits / 128 % 2 == 0
+    bits < 32768 && bits / 128 % 2 == 0
 }
 
 // True only where every word of the block that begins at `start` holds a channel of its kind. No turn of the loop branches.
+#[tactic(auto, using(crate::proofs::Held::or_none))]
 fn block_holds(kinds: &[u32], words: &[u32], start: usize) -> bool
     requires { BlockWithin kinds.now start words.now }
     ensures { result ≡ true → AllHold words.now start (start + 48) }
 {
     let mut bits: u32 = 0;
-    let mut j: usize = 0;
-    while j < BLOCK_WORDS {
-        bits = either(bits, fault_bits(kinds[j], words[start + j]));
-        j += 1;
+    for j in 0..BLOCK_WORDS {
+        bits |= fault_bits(kinds[j], words[start + j]);
     }
     no_fault(bits)
 }
@@ -65,12 +53,10 @@ fn block_holds(kinds: &[u32], words: &[u32], start: usize) -> bool
 fn rest_holds(words: &[u32], from: usize) -> bool
     ensures { result ≡ true → AllHold words.now from (length words.now) }
 {
-    let mut k = from;
-    while k < words.len() {
+    for k in from..words.len() {
         if !no_fault(fault_bits(channel_word(k, 0), words[k])) {
             return false;
         }
-        k += 1;
     }
     true
 }
@@ -80,16 +66,10 @@ fn quarters_hold(kinds: &[u32], words: &[u32], quarter: usize, start: usize) -> 
     requires { IsKinds kinds.now × (start % 3 ≡ 0) × (quarter % 3 ≡ 0) × (start + 48 ≤ quarter) × (4 * quarter ≤ length words.now) }
     ensures { result ≡ true → QuartersHold words.now quarter start (start + 48) }
 {
-    if !block_holds(kinds, words, start) {
-        return false;
-    }
-    if !block_holds(kinds, words, quarter + start) {
-        return false;
-    }
-    if !block_holds(kinds, words, 2 * quarter + start) {
-        return false;
-    }
-    block_holds(kinds, words, 3 * quarter + start)
+    block_holds(kinds, words, start)
+        && block_holds(kinds, words, quarter + start)
+        && block_holds(kinds, words, 2 * quarter + start)
+        && block_holds(kinds, words, 3 * quarter + start)
 }
 
 // True only where every word holds a channel of its kind: whole blocks, then the rest. Four blocks are read at a time, far apart, since
@@ -99,38 +79,32 @@ fn all_hold(words: &[u32]) -> bool
 {
     let kinds = block_kinds();
     let quarter = words.len() / 192 * BLOCK_WORDS;
-    let mut start: usize = 0;
-    while start < quarter {
+    for start in (0..quarter).step_by(BLOCK_WORDS) {
         if !quarters_hold(&kinds, words, quarter, start) {
             return false;
         }
-        start += BLOCK_WORDS;
     }
     rest_holds(words, 4 * quarter)
 }
 
 // The first word that is no channel of its kind ends the walk. The first word is that of channel 0, at the index `start`.
-fn first_fault(start: u32, words: &[u32]) -> Verdict
+fn first_fault(start: u32, words: &[u32]) -> Result<(), Fault>
     ensures { result ≡ first_refusal (placed decode_word start 0 words.now) }
 {
-    let mut k: usize = 0;
-    while k < words.len() {
-        let decoded = decode_word(k, words[k]);
-        let Decoded::Holds(_) = decoded else {
-            return verdict_at(start as usize + k, decoded);
-        };
-        k += 1;
+    for (k, word) in words.iter().enumerate() {
+        verdict_at(start as usize + k, decode_word(k, *word))?;
     }
-    Verdict::Accepted
+    Ok(())
 }
 
 // The first refusal of channel words, the first of which is that of channel 0 and has the index `start`.
-pub fn check_channels(start: u32, words: &[u32]) -> Verdict
+#[tactic(auto, using(crate::proofs::Held::held_accepted))]
+pub fn check_channels(start: u32, words: &[u32]) -> Result<(), Fault>
     ensures verdict { result ≡ first_refusal (placed decode_word start 0 words.now) }
     ensures outcome { report_of result ≡ report_of (first_refusal (placed decode_word start 0 words.now)) }
 {
     if all_hold(words) {
-        return Verdict::Accepted;
+        return Ok(());
     }
     first_fault(start, words)
 }

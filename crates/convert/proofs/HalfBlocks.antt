@@ -1,19 +1,20 @@
 -- Loops over halves, and over the 48 of a block. Assumes nothing.
-use Rattle.std.proofs.Common.{◌≡◌, ℕ, ◌+◌, ◌%◌, ◌<◌, ◌≤◌, List, length, get_or, set, refl, arith}
+use Rattle.std.proofs.Common.{◌≡◌, ℕ, ◌+◌, ◌%◌, ◌<◌, ◌≤◌, List, length, get_or, set, refl, ap, arith}
 use Rattle.number.specs.loops.Halves.{half_code}
 use Rattle.number.proofs.Laws.{half_finite}
-use Rattle.refusal.specs.declared.Verdict.{Verdict}
 use Rattle.word.specs.Words.{channel_word}
+use Rattle.word.specs.Placing.{verdict_at}
 use Rattle.word.proofs.Walks.{checking, checking_next, writing_next}
 use Rattle.word.specs.loops.Walks.{writing}
 use Rattle.convert.specs.Formats.{half_element}
+use Rattle.refusal.specs.Verdicts.{Verdict}
 
 -- ---- a loop that checks: `most` is at least the magnitude of each half so far
 
 pub finite_next : (xs : List ℕ) (k most next : ℕ) {all : Verdict} → (most < 31744 → checking half_element 0 xs k ≡ all) → k < length xs
     → (most ≤ next) × (get_or xs k 0 % 32768 ≤ next) → next < 31744 → checking half_element 0 xs (k + 1) ≡ all
 finite_next xs k most next inv inside h small =
-    checking_next _ _ xs k (inv (omega arith)) inside refl (half_finite (get_or xs k 0) (omega arith))
+    checking_next _ _ xs k (inv (omega arith)) inside refl (ap (verdict_at (0 + k)) (half_finite (get_or xs k 0) (omega arith)))
 
 -- ---- a loop that stores a block
 

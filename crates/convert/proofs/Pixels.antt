@@ -1,15 +1,15 @@
 -- Loops over the pixels of an RGBE picture. Assumes nothing.
-use Rattle.std.proofs.Common.{◌≡◌, ℕ, suc, ◌+◌, ◌*◌, ◌/◌, ◌<◌, ◌≤◌, List, [], ◌∷◌, ◌++◌, length, get_or, drop, set, sym, refl, ◌∙◌, arith, length-drop, length-set, drop-cons}
+use Rattle.std.proofs.Common.{◌≡◌, ℕ, zero, suc, ◌+◌, ◌*◌, ◌/◌, ◌<◌, ◌≤◌, List, [], ◌∷◌, ◌++◌, length, get_or, drop, set, sym, ap, refl, ◌∙◌, arith, lit<, add-zero, zero-add, get_or-take, get_or-drop, length-drop, length-set, drop-cons}
 use lib.Seq.{sets}
-use Rattle.refusal.specs.declared.Refusal.{Refusal}
-use Rattle.refusal.specs.declared.Verdict.{Verdict}
-use Rattle.refusal.specs.declared.Verdict.TheVariants.{Accepted, Refused}
-use Rattle.refusal.specs.Verdicts.{and_then}
+use Rattle.std.specs.Simd.{first_chunks}
+use Rattle.refusal.specs.Verdicts.{and_then, Verdict, accepted}
 use Rattle.word.specs.Words.{body_words}
 use Rattle.word.specs.Placing.{Placed, first_refusal, channels_of}
 use Rattle.word.proofs.Walks.{refusal_append, words_whole}
-use Rattle.convert.specs.Formats.{rgbe_pixel, rgbe_pixels}
-use Rattle.convert.specs.loops.Stores.{rgbe_word}
+use Rattle.convert.specs.Formats.{rgbe_pixels}
+use Rattle.convert.specs.loops.Stores.{pixel_of, pixel_word}
+use Rattle.std.specs.Prelude.{Err}
+use Rattle.refusal.specs.declared.Fault.{Fault}
 
 -- the four bytes at an index, and the rest
 four : (xs : List ℕ) (i : ℕ) → i + 3 < length xs
@@ -38,17 +38,16 @@ short i (r ∷ g ∷ []) h = refl
 short i (r ∷ g ∷ b ∷ []) h = refl
 short i (r ∷ g ∷ b ∷ e ∷ xs) h = absurd (omega arith)
 
--- three channels a pixel
-pub length_pixels : (i : ℕ) (xs : List ℕ) → length (rgbe_pixels i xs) ≡ 3 * (length xs / 4)
-length_pixels i [] = refl
-length_pixels i (r ∷ []) = refl
-length_pixels i (r ∷ g ∷ []) = refl
-length_pixels i (r ∷ g ∷ b ∷ []) = refl
-length_pixels i (r ∷ g ∷ b ∷ e ∷ xs) = omega (arith, length_pixels (i + 4) xs)
+-- pixel p: its four bytes, and what they decode to
+abbrev pub bytes_at : List ℕ → (p : ℕ) → List ℕ
+bytes_at xs p = get_or (first_chunks 4 (length xs / 4) xs) p []
 
--- pixel p
-abbrev pub pixel_at : List ℕ → (p : ℕ) → List Placed
-pixel_at xs p = rgbe_pixel (4 * p) (get_or xs (4 * p) 0) (get_or xs (4 * p + 1) 0) (get_or xs (4 * p + 2) 0) (get_or xs (4 * p + 3) 0)
+byte_at : (xs : List ℕ) (n p j : ℕ) → p < n → j < 4 → get_or (get_or (first_chunks 4 n xs) p []) j 0 ≡ get_or xs (4 * p + j) 0
+byte_at xs zero p j h i = absurd (omega arith)
+byte_at xs (suc n) zero j h i = rw zero-add (get_or-take 4 xs j 0 i)
+byte_at xs (suc n) (suc p) j h i =
+    let k : 4 + (4 * p + j) ≡ 4 * suc p + j = omega arith in
+    byte_at (drop 4 xs) n p j (omega arith) i ∙ get_or-drop 4 xs (4 * p + j) 0 ∙ ap (λ k. get_or xs k 0) k
 
 -- the pixels that are left, from number p on
 unfoldable pub left : List ℕ → (p : ℕ) → List Placed
@@ -58,11 +57,12 @@ pub left_all : (xs : List ℕ) → first_refusal (left xs 0) ≡ first_refusal (
 unfolding left
 left_all xs = refl
 
-left_next : (xs : List ℕ) (p : ℕ) → p < length xs / 4 → left xs p ≡ pixel_at xs p ++ left xs (p + 1)
+left_next : (xs : List ℕ) (p : ℕ) → p < length xs / 4 → left xs p ≡ pixel_of (4 * p) (bytes_at xs p) ++ left xs (p + 1)
 unfolding left
 left_next xs p h =
     let e : 4 * (p + 1) ≡ 4 * p + 4 = omega arith in
-    rw (e, four xs (4 * p) (omega arith))
+    let byte : (j : ℕ) → j < 4 → get_or (bytes_at xs p) j 0 ≡ get_or xs (4 * p + j) 0 = λ j. byte_at xs (length xs / 4) p j h in
+    rw (e, four xs (4 * p) (omega arith), byte 0 (lit< tt), byte 1 (lit< tt), byte 2 (lit< tt), byte 3 (lit< tt), add-zero)
 
 left_done : (xs : List ℕ) (p : ℕ) → length xs / 4 ≤ p → left xs p ≡ []
 unfolding left
@@ -71,19 +71,19 @@ left_done xs p h = short (4 * p) (drop (4 * p) xs) (rw length-drop (omega arith)
 -- ---- a loop that checks
 
 module _ (xs : List ℕ) (p : ℕ) {all : Verdict} (inv : first_refusal (left xs p) ≡ all) where
-  module _ (inside : p < length xs / 4) {v : Verdict} (pixel : v ≡ first_refusal (pixel_at xs p)) where
+  module _ (inside : p < length xs / 4) {v : Verdict} (pixel : v ≡ first_refusal (pixel_of (4 * p) (bytes_at xs p))) where
     step : and_then v (first_refusal (left xs (p + 1))) ≡ all
-    step = rw pixel (sym (refusal_append (pixel_at xs p) (left xs (p + 1))) ∙ (rw (left_next xs p inside) at inv))
+    step = rw pixel (sym (refusal_append (pixel_of (4 * p) (bytes_at xs p)) (left xs (p + 1))) ∙ (rw (left_next xs p inside) at inv))
 
-    pub pixels_next : v ≡ Accepted → first_refusal (left xs (p + 1)) ≡ all
+    pub pixels_next : v ≡ accepted → first_refusal (left xs (p + 1)) ≡ all
     unfolding and_then
     pixels_next told = rw told at step
 
-    pub pixels_refused : {r : Refusal} {i : ℕ} → v ≡ Refused r i → v ≡ all
+    pub pixels_refused : {f : Fault} → v ≡ Err f → Err f ≡ all
     unfolding and_then
-    pixels_refused told = told ∙ (rw told at step)
+    pixels_refused told = rw told at step
 
-  pub pixels_done : length xs / 4 ≤ p → Accepted ≡ all
+  pub pixels_done : length xs / 4 ≤ p → accepted ≡ all
   pixels_done h = rw (left_done xs p h) at inv
 
 -- ---- a loop that stores
@@ -92,18 +92,17 @@ module _ (xs : List ℕ) (p : ℕ) {all : Verdict} (inv : first_refusal (left xs
 unfoldable pub writing : List ℕ → (p : ℕ) → List ℕ → List ℕ
 writing xs p t = sets t (3 * p) (body_words (3 * p) (channels_of (left xs p)))
 
-pub writing_all : (xs t : List ℕ) → length t ≡ 3 * (length xs / 4) → writing xs 0 t ≡ body_words 0 (channels_of (rgbe_pixels 0 xs))
+pub writing_all : (xs t : List ℕ) → length t ≡ length (rgbe_pixels 0 xs) → writing xs 0 t ≡ body_words 0 (channels_of (rgbe_pixels 0 xs))
 unfolding writing left
-writing_all xs t long = words_whole (rgbe_pixels 0 xs) t (long ∙ sym (length_pixels 0 xs))
+writing_all xs t long = words_whole (rgbe_pixels 0 xs) t long
 
 module _ (xs : List ℕ) (p : ℕ) (t : List ℕ) {n : ℕ} {u : List ℕ} (inv : (length t ≡ n) × (writing xs p t ≡ u)) where
   pub writing_next : p < length xs / 4
-      → let i = 4 * p in
-      let k = 3 * p in
-      let e = get_or xs (i + 3) 0 in
-      let red = set t k (rgbe_word k (get_or xs i 0) e) in
-      let green = set red (k + 1) (rgbe_word (k + 1) (get_or xs (i + 1) 0) e) in
-      let blue = set green (k + 2) (rgbe_word (k + 2) (get_or xs (i + 2) 0) e) in
+      → let k = 3 * p in
+      let bs = bytes_at xs p in
+      let red = set t k (pixel_word k 0 bs) in
+      let green = set red (k + 1) (pixel_word (k + 1) 1 bs) in
+      let blue = set green (k + 2) (pixel_word (k + 2) 2 bs) in
       (length blue ≡ n) × (writing xs (p + 1) blue ≡ u)
   unfolding writing
   writing_next inside =

@@ -3,8 +3,7 @@
 -- white point 10 stands between 2 and 3 (2026-05).
 use Rattle.std.specs.Prelude.{ℕ, List, map, length}
 use Rattle.number.specs.Channels.{code_of}
-use Rattle.refusal.specs.declared.Verdict.{Verdict}
-use Rattle.refusal.specs.Verdicts.{and_then}
+use Rattle.refusal.specs.Verdicts.{and_then, Verdict}
 use Rattle.word.specs.declared.header.Header.{Header}
 use Rattle.word.specs.Words.{strip_of}
 use Rattle.word.specs.Placing.{first_refusal, channels_of}

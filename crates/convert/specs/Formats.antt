@@ -1,7 +1,6 @@
 -- The source pictures, and the channels that stand in them. Assumes nothing.
 use Rattle.std.specs.Prelude.{ℕ, ◌+◌, List, [], ◌∷◌, ◌++◌}
-use Rattle.number.specs.declared.channel.Decoded.{Decoded}
-use Rattle.number.specs.Channels.{channel_of_code}
+use Rattle.number.specs.Channels.{channel_of_code, Decoded}
 use Rattle.number.specs.Sources.{channel_of_value, half_value, single_value, rgbe_value}
 use Rattle.word.specs.Placing.{Placed, placed}
 

@@ -1,30 +1,25 @@
-// Halves in blocks of 48, which are 16 pixels. A block without subnormal numbers is stored by loops that have no branches.
+// Halves in blocks of 48, which are 16 pixels. A block without subnormal numbers is stored by loops that have no branches. A block is given by
+// its source and the index where it begins; a struct of the two would be no plainer, since each contract names both.
+ghost use Rattle.refusal.specs.Verdicts.{accepted};
 ghost use Rattle.std.specs.Prelude.{◌≡◌, ◌+◌, ◌≤◌, true, length};
-ghost use Rattle.refusal.specs.declared.Verdict.TheVariants.{Accepted};
 ghost use Rattle.word.specs.Placing.{first_refusal};
 ghost use Rattle.convert.specs.Formats.{half, decoded_source};
 ghost use Rattle.convert.specs.loops.HalfBlocks.{IsPlain, CodesOfHalves, BlockFits, StoresHalves};
 
-use number::order::lesser;
-use number::source::{half_code, plain_half_code};
-use word::body::channel_word;
+use crate::each::store_each;
+use crate::half::Half;
+use number::source::plain_half_code;
 use word::kinds::BLOCK_WORDS;
 
-fn greater(a: u16, b: u16) -> u16
-    ensures { (a ≤ result) × (b ≤ result) }
-{
-    if a < b { b } else { a }
-}
-
-// Whether no half is an infinity or no number; then none is refused.
+// Whether no half is an infinity or no number; then none is refused. The greatest of all and not `all`, which ends early: a compiler takes
+// several at a time.
+#[tactic(auto, using(word::proofs::Walks::checking_all, word::proofs::Walks::checking_done))]
 pub fn all_finite(source: &[u16]) -> bool
-    ensures { result ≡ true → first_refusal (decoded_source half source.now) ≡ Accepted }
+    ensures { result ≡ true → first_refusal (decoded_source half source.now) ≡ accepted }
 {
     let mut most: u16 = 0;
-    let mut k: usize = 0;
-    while k < source.len() {
-        most = greater(most, source[k] % 32768);
-        k += 1;
+    for half in source {
+        most = most.max(*half % 32768);
     }
     most < 31744
 }
@@ -35,37 +30,25 @@ fn is_plain(source: &[u16], start: usize) -> bool
     requires { start + 48 ≤ length source.now }
     ensures { result ≡ true → IsPlain source.now start }
 {
-    let mut least: u16 = 65535;
-    let mut j: usize = 0;
-    while j < BLOCK_WORDS {
-        least = lesser(least, std::num::wrapping_sub_u16(source[start + j], 1));
-        j += 1;
+    let mut least = u16::MAX;
+    // By the index: over the slice of the block a page is converted a sixth slower.
+    for j in 0..BLOCK_WORDS {
+        least = least.min(source[start + j].wrapping_sub(1));
     }
     1023 <= least
 }
 
-// The words of the halves from number `from` on, up to `end`.
-pub fn store_each(source: &[u16], from: usize, end: usize, body: &mut [u32])
-    requires { (from ≤ end) × (end ≤ length source.now) × (length source.now ≤ length body.old) }
-    ensures { StoresHalves source.now from end body.old body.new }
-{
-    let mut k = from;
-    while k < end {
-        body[k] = channel_word(k, half_code(source[k]));
-        k += 1;
-    }
-}
-
 // The codes of the block that begins at `start`, where no half is a positive subnormal number.
-fn plain_codes(source: &[u16], start: usize, codes: &mut [u16])
-    requires { (start + 48 ≤ length source.now) × IsPlain source.now start × (length codes.old ≡ 48) }
-    ensures { CodesOfHalves source.now start codes.new }
+fn plain_codes(source: &[u16], start: usize) -> [u16; BLOCK_WORDS]
+    requires { (start + 48 ≤ length source.now) × IsPlain source.now start }
+    ensures { CodesOfHalves source.now start result }
 {
-    let mut j: usize = 0;
-    while j < BLOCK_WORDS {
+    // A loop: from what `from_fn` says of its 48 calls the proof did not close.
+    let mut codes = [0; BLOCK_WORDS];
+    for j in 0..BLOCK_WORDS {
         codes[j] = plain_half_code(source[start + j]);
-        j += 1;
     }
+    codes
 }
 
 // The words of the block that begins at `start`, where no half is a positive subnormal number. The codes are made first: they are half as
@@ -74,12 +57,9 @@ fn store_plain(kinds: &[u32], source: &[u16], start: usize, body: &mut [u32])
     requires { BlockFits kinds.now start source.now body.old × IsPlain source.now start }
     ensures { StoresHalves source.now start (start + 48) body.old body.new }
 {
-    let mut codes = [0u16; 48];
-    plain_codes(source, start, &mut codes);
-    let mut j: usize = 0;
-    while j < BLOCK_WORDS {
+    let codes = plain_codes(source, start);
+    for j in 0..BLOCK_WORDS {
         body[start + j] = kinds[j] + codes[j] as u32;
-        j += 1;
     }
 }
 
@@ -91,6 +71,6 @@ pub fn store_block(kinds: &[u32], source: &[u16], start: usize, body: &mut [u32]
     if is_plain(source, start) {
         store_plain(kinds, source, start, body);
     } else {
-        store_each(source, start, start + BLOCK_WORDS, body);
+        store_each::<Half>(source, start, start + BLOCK_WORDS, body);
     }
 }

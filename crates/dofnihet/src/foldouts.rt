@@ -6,8 +6,8 @@ ghost use Rattle.bands.specs.Checks.{read_bands, check_map_bands};
 ghost use Rattle.bands.specs.Cutting.{tall_strip};
 ghost use Rattle.bands.specs.Answers.{tally_bands, joined_levels};
 
-use answers::headers::{HeaderAnswer, header_answer};
-use answers::tallies::{TallyAnswer, tally_answer};
+use answers::headers::HeaderAnswer;
+use answers::tallies::TallyAnswer;
 use bands::check::header;
 use bands::map::map;
 use bands::tally::tally;
@@ -18,16 +18,17 @@ use refusal::{Outcome, report};
 pub extern "C" fn dofnihet_header_of_bands(bands: &[u32]) -> HeaderAnswer
     ensures { result ≡ header_answer (read_bands bands.now) }
 {
-    header_answer(header(bands))
+    header(bands).into()
 }
 
 // The number of lit pixels of all bands, the sum of their steps, the average and the extremes.
+#[tactic(auto, using(answers::proofs::Laws::tally_bounded))]
 #[unsafe(no_mangle)]
 pub extern "C" fn dofnihet_tally_of_bands(bands: &[u32]) -> TallyAnswer
     ensures answer { result ≡ tally_answer (tally_bands bands.now) }
     ensures bound { TallyBound (tall_strip bands.now) result }
 {
-    tally_answer(tally(bands))
+    tally(bands).into()
 }
 
 // Three level bytes for each pixel of all bands; a refusal leaves the output as it was.

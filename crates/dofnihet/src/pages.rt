@@ -6,18 +6,19 @@ ghost use Rattle.page.specs.Tallying.{tally_strip};
 ghost use Rattle.answers.specs.Answers.{tally_answer, Reports};
 ghost use Rattle.answers.specs.Claims.{TallyBound, MapBound};
 
-use answers::tallies::{TallyAnswer, tally_answer};
+use answers::tallies::TallyAnswer;
 use page::map::map;
 use page::tally::tally;
 use refusal::{Outcome, report};
 
 // The number of lit pixels of a strip, the sum of their steps, the average and the extremes.
+#[tactic(auto, using(answers::proofs::Laws::tally_bounded))]
 #[unsafe(no_mangle)]
 pub extern "C" fn dofnihet_tally_of(strip: &[u32]) -> TallyAnswer
     ensures answer { result ≡ tally_answer (tally_strip strip.now) }
     ensures bound { TallyBound strip.now result }
 {
-    tally_answer(tally(strip))
+    tally(strip).into()
 }
 
 // Three level bytes a pixel; a refusal leaves the output as it was.

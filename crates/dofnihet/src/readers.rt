@@ -3,7 +3,7 @@ ghost use Rattle.std.specs.Prelude.{◌≡◌};
 ghost use Rattle.reader.specs.Steps.{step_number};
 ghost use Rattle.answers.specs.Answers.{step_answer};
 
-use answers::steps::{StepAnswer, step_answer};
+use answers::steps::StepAnswer;
 use reader::step_number;
 
 // The answer of step n of a strip's reader, counted from 0.
@@ -11,5 +11,5 @@ use reader::step_number;
 pub extern "C" fn dofnihet_step_of(strip: &[u32], n: u64) -> StepAnswer
     ensures { result ≡ step_answer (step_number strip.now n) }
 {
-    step_answer(step_number(strip, n))
+    step_number(strip, n).into()
 }

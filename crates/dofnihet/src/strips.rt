@@ -5,7 +5,7 @@ ghost use Rattle.strip.specs.Checks.{check_strip, check_output};
 ghost use Rattle.strip.specs.Reading.{read_header, strip_codes};
 ghost use Rattle.answers.specs.Answers.{header_answer, Reports};
 
-use answers::headers::{HeaderAnswer, header_answer};
+use answers::headers::HeaderAnswer;
 use refusal::{Outcome, report};
 use strip::check::check;
 use strip::read::{header, unpack};
@@ -31,5 +31,5 @@ pub extern "C" fn dofnihet_unpack(strip: &[u32], output: &mut [u16]) -> Outcome
 pub extern "C" fn dofnihet_header_of(strip: &[u32]) -> HeaderAnswer
     ensures { result ≡ header_answer (read_header strip.now) }
 {
-    header_answer(header(strip))
+    header(strip).into()
 }

@@ -14,7 +14,8 @@ use Rattle.frame.specs.Frames.{check_frame}
 use Rattle.convert.specs.Converting.{check_source}
 use Rattle.strip.specs.Checks.{check_head, check_body, check_with, check_strip, check_output}
 use Rattle.luminance.specs.Pixels.{luminance_of}
-use Rattle.average.specs.Tables.{greatest, log_test, log_of, root_test, root_of}
+use Rattle.table.specs.Tables.{greatest}
+use Rattle.average.specs.Tables.{log_test, log_of, root_test, root_of}
 use Rattle.average.specs.Averages.{stored_average, average_of}
 use Rattle.average.specs.Tallies.{sum_of}
 use Rattle.tone.specs.Levels.{level_of}

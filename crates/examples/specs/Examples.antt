@@ -1,27 +1,27 @@
 -- The worked examples of document 01 that are proved, T[192] as 2026-06 has it, and two of the rule of 2026-03, as one table of inputs and
 -- answers. Assumes nothing.
 -- "Marked ▲ are the proved ones. Hexadecimal halves and singles; (E,M) decimal."
-use Rattle.std.specs.Prelude.{ℕ, ◌≡◌, List, [], ◌∷◌, map, ℤ, pos, neg_ℤ, length, get_or, replicate}
+use Rattle.std.specs.Prelude.{ℕ, ◌≡◌, List, [], ◌∷◌, map, ℤ, pos, neg_ℤ, length, get_or, replicate, Err, None, Ok, Option, Result, Some}
 use Rattle.number.specs.declared.channel.Channel.TheVariants.{Black, Lit}
-use Rattle.number.specs.declared.channel.Decoded.{Decoded}
 use Rattle.number.specs.Sources.{channel_of_value, half_value, single_value, rgbe_value}
 use Rattle.refusal.specs.declared.Refusal.{Refusal}
 use Rattle.refusal.specs.Refusals.{outcome_of}
-use Rattle.white.specs.declared.White.TheVariants.{Absent}
 use Rattle.word.specs.declared.header.Header.{Header}
 use Rattle.word.specs.Words.{strip_length}
 use Rattle.strip.specs.Checks.{channel_count}
 use Rattle.refusal.specs.Output.{after}
 use Rattle.convert.specs.Formats.{Format}
 use Rattle.convert.specs.Converting.{check_source, converted}
-use Rattle.average.specs.declared.average.Average.{Average}
-use Rattle.average.specs.declared.average.Average.TheVariants.{Present}
 use Rattle.average.specs.Tables.{log_of, root_of}
-use Rattle.page.specs.declared.tally.TallyOrRefusal.{TallyOrRefusal}
 use Rattle.page.specs.Checks.{check_map}
 use Rattle.page.specs.Tallying.{tally_told, tally_strip}
 use Rattle.page.specs.Mapping.{strip_levels}
 use Rattle.ppm.specs.Answers.{printed_for, bytes_of}
+use Rattle.average.specs.Averages.{◌stored_as◌}
+use Rattle.average.specs.declared.average.Average.{Average}
+use Rattle.number.specs.Channels.{Decoded}
+use Rattle.page.specs.declared.tally.PageTally.{PageTally}
+use Rattle.refusal.specs.declared.Fault.{Fault}
 
 -- a number of a source; the entry T[M], and X[f]; a page of one row of grey pixels, each given as a half; such a page, of which only the
 -- average is asked; a file for the picture program
@@ -42,7 +42,7 @@ pub data Answer : Type 0 where
   lit : (E M : ℕ) → Answer
   refused : (number : ℕ) → Answer
   entry : (n : ℕ) → Answer
-  mapped : (strip : List ℕ) → Average → (levels : List ℕ) → Answer
+  mapped : (strip : List ℕ) → Option Average → (levels : List ℕ) → Answer
   steps : (A : ℤ) → Answer
   prints : (bytes : List ℕ) → Answer
 
@@ -53,20 +53,20 @@ abbrev pub refused_by : Refusal → Answer
 refused_by r = refused (outcome_of r 0).number
 
 abbrev pub channel_answer : Decoded → Answer
-channel_answer (Decoded.Holds Black) = black
-channel_answer (Decoded.Holds (Lit E M)) = lit E M
-channel_answer (Decoded.Refuses r) = refused_by r
+channel_answer (Ok Black) = black
+channel_answer (Ok (Lit E M)) = lit E M
+channel_answer (Err r) = refused_by r
 
 -- what mapping leaves in an output of zeros that is just long enough
 abbrev pub levels_left : (strip : List ℕ) → List ℕ
 levels_left s = let n = channel_count s in after (check_map s n) (strip_levels s) (replicate n 0)
 
-abbrev pub page_answer : (strip : List ℕ) → TallyOrRefusal → Answer
-page_answer s (TallyOrRefusal.Holds t a) = mapped s a (levels_left s)
-page_answer s (TallyOrRefusal.Refuses r i) = refused_by r
+abbrev pub page_answer : (strip : List ℕ) → Result PageTally Fault → Answer
+page_answer s (Ok p) = mapped s p.average (levels_left s)
+page_answer s (Err f) = refused_by f.refusal
 
 -- A is the tally's fourth number
-abbrev pub steps_answer : TallyOrRefusal → Answer
+abbrev pub steps_answer : Result PageTally Fault → Answer
 steps_answer a = steps (get_or (tally_told a).values 3 (pos 0))
 
 -- each half three times
@@ -75,7 +75,7 @@ grey_source [] = []
 grey_source (b ∷ bs) = b ∷ b ∷ b ∷ grey_source bs
 
 abbrev pub grey_header : (key : ℕ) (halves : List ℕ) → Header
-grey_header K bs = record { width = length bs; height = 1; key = K; white = Absent }
+grey_header K bs = record { width = length bs; height = 1; key = K; white = None }
 
 -- what converting leaves in an output of zeros that is just long enough
 abbrev pub grey_strip : (key : ℕ) (halves : List ℕ) → List ℕ
@@ -104,8 +104,8 @@ infix 70 ◌gives◌
 abbrev pub ◌gives◌ : Input → Answer → Example
 i gives a = record { input = i; answer = a }
 
-abbrev pub average : (A : ℤ) (E M : ℕ) → Average
-average A E M = Present A (record { exponent = E; mantissa = M })
+abbrev pub average : (A : ℤ) (E M : ℕ) → Option Average
+average A E M = Some (A stored_as (record { exponent = E; mantissa = M }))
 
 abbrev pub grey_words : List ℕ
 grey_words =

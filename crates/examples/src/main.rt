@@ -5,18 +5,52 @@ mod pages;
 mod print;
 mod sources;
 
-use crate::pages::{grey_and_black, one_grey, red_alone, three_greys};
-use crate::sources::{half, rgbe, single};
+use crate::pages::{grey_and_black, header, one_grey, red_alone, three_greys};
+use crate::sources::grey;
+use convert::half::convert_half;
+use convert::rgbe::convert_rgbe;
+use convert::single::convert_single;
+use std::io;
 
-fn main() {
-    half(b"half 0003: ", 0x0003);
-    half(b"half 8000: ", 0x8000);
-    rgbe(b"RGBE byte 1, e 136: ", 1, 136);
-    rgbe(b"RGBE byte 128, e 185: ", 128, 185);
-    single(b"single 23000001: ", 0x23000001);
-    single(b"single 5B800000: ", 0x5B800000);
-    one_grey();
-    three_greys();
-    grey_and_black();
-    red_alone();
+// A write that fails ends the examples, and is not told.
+fn main(rt: HostRuntime) {
+    let _ = print_all(&rt);
+}
+
+fn print_all(rt: &impl Print) -> io::Result<()> {
+    let page = header(1, 180);
+    grey(
+        rt,
+        "half 0003",
+        |strip| convert_half(&[0x0003; 3], page, strip),
+    )?;
+    grey(
+        rt,
+        "half 8000",
+        |strip| convert_half(&[0x8000; 3], page, strip),
+    )?;
+    grey(
+        rt,
+        "RGBE byte 1, e 136",
+        |strip| convert_rgbe(&[1, 1, 1, 136], page, strip),
+    )?;
+    grey(
+        rt,
+        "RGBE byte 128, e 185",
+        |strip| convert_rgbe(&[128, 128, 128, 185], page, strip),
+    )?;
+    grey(
+        rt,
+        "single 23000001",
+        |strip| convert_single(&[0x23000001; 3], page, strip),
+    )?;
+    grey(
+        rt,
+        "single 5B800000",
+        |strip| convert_single(&[0x5B800000; 3], page, strip),
+    )?;
+    one_grey(rt)?;
+    three_greys(rt)?;
+    grey_and_black(rt)?;
+    red_alone(rt)
 }

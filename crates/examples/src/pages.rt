@@ -1,14 +1,13 @@
 // Examples of whole pages, converted from halves.
-use crate::print::{number, pair, refused, signed, text};
+use crate::print::{Levels, Pair, Refused};
 use average::average::Average;
 use convert::half::convert_half;
 use luminance::index::code_luminance;
-use luminance::pixel::Luminance;
+use number::ratio::Stored;
 use page::map::map;
-use page::tally::{TallyOrRefusal, tally};
-use refusal::Verdict;
+use page::tally::tally;
+use std::io;
 use strip::read::body;
-use white::White;
 use word::header::{Header, low_half};
 
 // A page of one row.
@@ -17,124 +16,95 @@ pub fn header(width: u64, key: u64) -> Header {
         width,
         height: 1,
         key,
-        white: White::Absent,
+        white: None,
     }
+}
+
+// The strip of a page of halves; one of zeros, which every call refuses, where the page is refused.
+fn strip_of<const N: usize>(halves: &[u16], page: Header) -> [u32; N] {
+    let mut strip = [0; N];
+    let _ = convert_half(halves, page, &mut strip);
+    strip
 }
 
 // The average of a strip, absent where the strip is refused.
-fn average(strip: &[u32]) -> Average {
-    match tally(strip) {
-        TallyOrRefusal::Holds(_, average) => average,
-        TallyOrRefusal::Refuses(_, _) => Average::Absent,
+fn average(strip: &[u32]) -> Option<Average> {
+    tally(strip).ok()?.average
+}
+
+// The A of a strip.
+fn steps(rt: &impl Print, strip: &[u32]) -> io::Result<()> {
+    match average(strip) {
+        Some(average) => print!(rt; "A = {}", average.steps),
+        None => print!(rt; "absent"),
     }
 }
 
-// The A of an average.
-fn steps(average: Average) {
-    match average {
-        Average::Present(steps, _) => {
-            text(b"A = ");
-            signed(steps);
-        },
-        Average::Absent => text(b"absent"),
+// The stored average of a strip.
+fn stored(rt: &impl Print, strip: &[u32]) -> io::Result<()> {
+    match average(strip) {
+        Some(average) => print!(rt; ", average {}", Pair(average.stored)),
+        None => print!(rt; ", absent"),
     }
-}
-
-// Its stored number.
-fn stored(average: Average) {
-    match average {
-        Average::Present(_, stored) => {
-            text(b", average ");
-            pair(stored.exponent as u64, stored.mantissa as u64);
-        },
-        Average::Absent => text(b", absent"),
-    }
-}
-
-fn level(byte: u8) {
-    text(b" ");
-    number(byte as u64);
 }
 
 // The levels of a strip of one or two pixels.
-fn levels(strip: &[u32]) {
+fn levels(rt: &impl Print, strip: &[u32]) -> io::Result<()> {
     let mut bytes = [0u8; 6];
     match map(strip, &mut bytes) {
-        Verdict::Accepted => {
-            text(b", levels");
-            level(bytes[0]);
-            level(bytes[1]);
-            level(bytes[2]);
-            if strip.len() > 6 {
-                level(bytes[3]);
-                level(bytes[4]);
-                level(bytes[5]);
-            }
+        Ok(()) => {
+            let count = body(strip).len().min(6);
+            print!(rt; ", levels{}", Levels(&bytes[..count]))
         },
-        Verdict::Refused(refusal, i) => refused(refusal, i),
+        Err(fault) => print!(rt; "{}", Refused(fault)),
     }
 }
 
 // The luminance of the first pixel.
-fn luminance(strip: &[u32]) {
-    let words = body(strip);
-    if words.len() < 3 {
-        return;
-    }
-    match code_luminance(low_half(words[0]), low_half(words[1]), low_half(words[2])) {
-        Luminance::Lit(stored) => pair(stored.exponent as u64, stored.mantissa as u64),
-        Luminance::Unlit => text(b"unlit"),
+fn luminance(strip: &[u32]) -> Option<Stored> {
+    match body(strip) {
+        [red, green, blue, ..] => code_luminance(low_half(*red), low_half(*green), low_half(*blue)),
+        _ => None,
     }
 }
 
-pub fn one_grey() {
-    let mut strip = [0u32; 6];
-    convert_half(&[0x3C00, 0x3C00, 0x3C00], header(1, 180), &mut strip);
-    let average = average(&strip);
-    text(b"one grey 3C00, K 180: ");
-    steps(average);
-    stored(average);
-    levels(&strip);
-    text(b"\n");
+pub fn one_grey(rt: &impl Print) -> io::Result<()> {
+    let strip: [u32; 6] = strip_of(&[0x3C00; 3], header(1, 180));
+    print!(rt; "one grey 3C00, K 180: ")?;
+    steps(rt, &strip)?;
+    stored(rt, &strip)?;
+    levels(rt, &strip)?;
+    println!(rt; "")
 }
 
-pub fn three_greys() {
-    let mut strip = [0u32; 12];
-    convert_half(
-        &[
-            0x3C00, 0x3C00, 0x3C00, 0x3C00, 0x3C00, 0x3C00, 0x3800, 0x3800, 0x3800,
-        ],
-        header(3, 180),
-        &mut strip,
-    );
-    text(b"greys 3C00, 3C00, 3800, K 180: ");
-    steps(average(&strip));
-    text(b"\n");
+pub fn three_greys(rt: &impl Print) -> io::Result<()> {
+    let halves = [
+        0x3C00, 0x3C00, 0x3C00, 0x3C00, 0x3C00, 0x3C00, 0x3800, 0x3800, 0x3800,
+    ];
+    let strip: [u32; 12] = strip_of(&halves, header(3, 180));
+    print!(rt; "greys 3C00, 3C00, 3800, K 180: ")?;
+    steps(rt, &strip)?;
+    println!(rt; "")
 }
 
-pub fn grey_and_black() {
-    let mut strip = [0u32; 9];
-    convert_half(
-        &[0x7BFF, 0x7BFF, 0x7BFF, 0, 0, 0],
-        header(2, 180),
-        &mut strip,
-    );
-    text(b"grey 7BFF and a black pixel, K 180: ");
-    steps(average(&strip));
-    levels(&strip);
-    text(b"\n");
+pub fn grey_and_black(rt: &impl Print) -> io::Result<()> {
+    let strip: [u32; 9] = strip_of(&[0x7BFF, 0x7BFF, 0x7BFF, 0, 0, 0], header(2, 180));
+    print!(rt; "grey 7BFF and a black pixel, K 180: ")?;
+    steps(rt, &strip)?;
+    levels(rt, &strip)?;
+    println!(rt; "")
 }
 
-pub fn red_alone() {
-    let mut strip = [0u32; 6];
-    convert_half(&[0x3C00, 0, 0], header(1, 180), &mut strip);
-    text(b"red 3C00 alone: luminance ");
-    luminance(&strip);
-    text(b", K 180");
-    levels(&strip);
-    let mut brighter = [0u32; 6];
-    convert_half(&[0x3C00, 0, 0], header(1, 1000), &mut brighter);
-    text(b", K 1000");
-    levels(&brighter);
-    text(b"\n");
+pub fn red_alone(rt: &impl Print) -> io::Result<()> {
+    let strip: [u32; 6] = strip_of(&[0x3C00, 0, 0], header(1, 180));
+    match luminance(&strip) {
+        Some(stored) => print!(rt; "red 3C00 alone: luminance {}", Pair(stored))?,
+        None => print!(rt; "red 3C00 alone: unlit")?,
+    }
+    print!(rt; ", K 180")?;
+    levels(rt, &strip)?;
+    let brighter: [u32; 6] = strip_of(&[0x3C00, 0, 0], header(1, 1000));
+    print!(rt; ", K 1000")?;
+    levels(rt, &brighter)?;
+    println!(rt; "")
 }

@@ -1,37 +1,51 @@
-// What the examples print, on standard output.
-use refusal::{Refusal, outcome_of};
+// What the examples print.
+use number::ratio::Stored;
+use refusal::{Fault, Outcome};
+use std::fmt;
 
-pub fn text(bytes: &[u8]) {
-    io::write_all(1, bytes);
-}
+// A stored number.
+#[derive(Clone, Copy)]
+pub struct Pair(pub Stored);
 
-pub fn number(n: u64) {
-    io::print_decimal(1, n);
-}
-
-// A signed number in decimal digits.
-pub fn signed(z: i64) {
-    if z < 0 {
-        text(b"-");
-        number((-1 - z) as u64 + 1);
-    } else {
-        number(z as u64);
+impl fmt::Display for Pair {
+    fn fmt<W: fmt::Write>(&self, f: &mut fmt::Formatter<W>) -> fmt::Result {
+        write!(f, "({},{})", self.0.exponent, self.0.mantissa)
     }
 }
 
-// A stored number.
-pub fn pair(exponent: u64, mantissa: u64) {
-    text(b"(");
-    number(exponent);
-    text(b",");
-    number(mantissa);
-    text(b")");
+// A channel in its 16-bit form.
+#[derive(Clone, Copy)]
+pub struct Code(pub u16);
+
+impl fmt::Display for Code {
+    fn fmt<W: fmt::Write>(&self, f: &mut fmt::Formatter<W>) -> fmt::Result {
+        match self.0.to_be_bytes() {
+            [0, 0] => write!(f, "black"),
+            [exponent, mantissa] => write!(f, "({exponent},{mantissa})"),
+        }
+    }
 }
 
-pub fn refused(refusal: Refusal, index: usize) {
-    let told = outcome_of(refusal, index);
-    text(b"refused ");
-    number(told.number);
-    text(b" ");
-    number(told.place as u64);
+// Level bytes, a space before each.
+#[derive(Clone, Copy)]
+pub struct Levels<'a>(pub &'a [u8]);
+
+impl fmt::Display for Levels<'_> {
+    fn fmt<W: fmt::Write>(&self, f: &mut fmt::Formatter<W>) -> fmt::Result {
+        for level in self.0 {
+            write!(f, " {level}")?;
+        }
+        Ok(())
+    }
+}
+
+// A refusal.
+#[derive(Clone, Copy)]
+pub struct Refused(pub Fault);
+
+impl fmt::Display for Refused {
+    fn fmt<W: fmt::Write>(&self, f: &mut fmt::Formatter<W>) -> fmt::Result {
+        let told = Outcome::from(self.0);
+        write!(f, "refused {} {}", told.number, told.place)
+    }
 }

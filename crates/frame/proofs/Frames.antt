@@ -9,7 +9,6 @@ use borrow.Rule.Slice.PartMut.{put_mid}
 use lib.ListN.{length, set, take, length-append}
 use lib.Seq.{sets, length-take-le, drop_at, drop-drop, drop-cons, set_at, append_snoc}
 use Rattle.number.specs.declared.channel.Channel.{Channel}
-use Rattle.refusal.specs.declared.Verdict.TheVariants.{Accepted}
 use Rattle.refusal.proofs.Laws.{require_passed}
 use Rattle.white.specs.Whites.{white_fits}
 use Rattle.word.specs.declared.header.Header.{Header}
@@ -19,6 +18,7 @@ use Rattle.refusal.proofs.Outputs.{sets_front}
 use Rattle.word.proofs.Walks.{length_words}
 use Rattle.frame.specs.Frames.{check_frame}
 use Rattle.frame.specs.loops.Stores.{with_frame}
+use Rattle.refusal.specs.Verdicts.{accepted}
 
 pub record Page (h : Header) (per count room : ℕ) : Type 0 where
   pub size : size_fits h.width h.height ≡ true
@@ -27,7 +27,7 @@ pub record Page (h : Header) (per count room : ℕ) : Type 0 where
   pub long : count ≡ per * pixels h
   pub fits : strip_length h ≤ room
 
-pub page : (h : Header) (per count room : ℕ) → check_frame h per count room ≡ Accepted → Page h per count room
+pub page : (h : Header) (per count room : ℕ) → check_frame h per count room ≡ accepted → Page h per count room
 unfolding check_frame
 page h per count room e =
     let a = require_passed _ _ _ _ e in

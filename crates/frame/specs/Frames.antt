@@ -2,9 +2,7 @@
 -- "Converting: 1, 2, 3, 4, then elements in order". "Converting may be given a W" (2026-05): its check, 10, stands "between key and length".
 use Rattle.std.specs.Prelude.{ℕ, ◌*◌, leb, eqb}
 use Rattle.refusal.specs.declared.Refusal.TheVariants.{BadSize, BadKey, BadWhite, WrongLength, SmallOutput}
-use Rattle.refusal.specs.declared.Verdict.{Verdict}
-use Rattle.refusal.specs.declared.Verdict.TheVariants.{Accepted}
-use Rattle.refusal.specs.Verdicts.{require}
+use Rattle.refusal.specs.Verdicts.{require, Verdict, accepted}
 use Rattle.white.specs.Whites.{white_fits}
 use Rattle.word.specs.declared.header.Header.{Header}
 use Rattle.word.specs.Words.{pixels, size_fits, key_fits, strip_length}
@@ -17,4 +15,4 @@ check_frame h per count room =
     (require (white_fits h.white) BadWhite 0
     (require (eqb count (per * pixels h)) WrongLength 0
     (require (leb (strip_length h) room) SmallOutput 0
-    Accepted))))
+    accepted))))

@@ -10,34 +10,32 @@ ghost use Rattle.body.specs.loops.Indices.{IsBody};
 ghost use Rattle.light.specs.Light.{check_light};
 ghost use Rattle.light.specs.loops.Counting.{enough_for};
 
-use refusal::{Refusal, Verdict};
+use refusal::{Fault, Refusal, require};
 use word::header::low_half;
 
 // The least number of lit pixels that is enough for a page.
 pub fn enough_for(pixels: u64) -> u64
     ensures { result ≡ enough_for pixels }
 {
-    pixels / 16 + (pixels % 16 + 15) / 16
+    pixels.div_ceil(16)
 }
 
 // A page of so many pixels, of which so many are lit.
-pub fn check_light(lit: u64, pixels: u64) -> Verdict
+#[tactic(auto, using(crate::proofs::Light::light), unfolding(crate::specs::Light::check_light))]
+pub fn check_light(lit: u64, pixels: u64) -> Result<(), Fault>
     ensures { result ≡ check_light lit pixels }
 {
-    if lit < enough_for(pixels) {
-        Verdict::Refused(Refusal::DarkPage, 0)
-    } else {
-        Verdict::Accepted
-    }
+    require(enough_for(pixels) <= lit, Refusal::DarkPage, 0)
 }
 
-// 1 where the pixel of three channel words is lit, else 0: the code of a black channel is 0.
+// 1 where the pixel of three channel words is lit, else 0: the code of a black channel is 0. `IsCode` stays a
+// premise: it is about the lower half of a plain word.
 fn lit_one(red: u32, green: u32, blue: u32) -> u64
     requires { IsCode (low16 red) × IsCode (low16 green) × IsCode (low16 blue) }
     ensures { result ≡ lit_count (pixel_of (word_channel red) (word_channel green) (word_channel blue) ∷ []) }
 {
     let codes = low_half(red) as u64 + low_half(green) as u64 + low_half(blue) as u64;
-    if codes == 0 { 0 } else { 1 }
+    u64::from(codes != 0)
 }
 
 // The number of lit pixels of channel words, or `most` where there are more: as soon as it is reached, no further word is read.
@@ -45,16 +43,13 @@ pub fn lit_up_to(words: &[u32], most: u64) -> u64
     requires { IsBody words.now }
     ensures { result ≡ min most (lit_count (word_pixels words.now)) }
 {
-    let pixels = words.len() / 3;
-    let mut lit: u64 = 0;
-    let mut p: usize = 0;
-    while p < pixels {
+    let mut lit = 0;
+    for p in 0..words.len() / 3 {
         if lit == most {
             return lit;
         }
         let k = 3 * p;
         lit += lit_one(words[k], words[k + 1], words[k + 2]);
-        p += 1;
     }
     lit
 }

@@ -1,5 +1,5 @@
 -- The index of a luminance: what stands at it, and how a sum of weighted channels gives it by thirteen binary digits. Assumes nothing.
-use Rattle.std.proofs.Common.{◌≡◌, ℕ, ◌+◌, ◌-◌, ◌*◌, ◌/◌, ◌%◌, ◌^◌, ◌<◌, ◌≤◌, min, ◌⊎◌, sym, refl, ap, ◌∙◌, ap₂, subst₂, inl, inr, mul-le-mul_right, mul-le-mul, mul-lt-mul_of_pos_right, mul-pos, lt_of_not-le, arith, lit<, pow_pos, pow_mono, pow-add}
+use Rattle.std.proofs.Common.{◌≡◌, ℕ, ◌+◌, ◌-◌, ◌*◌, ◌/◌, ◌%◌, ◌^◌, ◌<◌, ◌≤◌, min, ◌⊎◌, List, get_or, sym, refl, ap, ◌∙◌, ap₂, subst₂, inl, inr, mul-le-mul_right, mul-le-mul_left, mul-le-mul, mul-lt-mul_of_pos_right, mul-pos, lt_of_not-le, arith, lit<, pow_pos, pow_mono, pow-add}
 use native.Mathlib.Decide.{dec_le}
 use Rattle.number.proofs.Laws.{◌over◌, Scales, Stores, IsLit, Coded, unit, stored_of, unit_pos, cell, powers_into, rescale, stored_as}
 use Rattle.number.specs.declared.channel.Channel.{Channel}
@@ -7,17 +7,17 @@ use Rattle.number.specs.declared.channel.Channel.TheVariants.{Black, Lit}
 use Rattle.number.specs.declared.channel.Pixel.{Pixel}
 use Rattle.number.specs.declared.ratio.Stored.{Stored}
 use Rattle.luminance.specs.Pixels.{luminance_of, IsLuminance}
-use Rattle.luminance.specs.loops.Codes.{index_of, index_count, stored_at, IsCut}
-use Rattle.luminance.specs.declared.pixel.Luminance.{Luminance}
+use Rattle.luminance.specs.loops.Codes.{index_of, index_count, stored_at, IsCut, IsWeightTable}
 use Rattle.luminance.proofs.Storables.{shut}
 use Rattle.luminance.proofs.Luminances.{red_lit}
+use Rattle.std.specs.Prelude.{Some}
 
 -- ---- the luminances have their indices, from 128 on
 
-pub index_stored : (y : Stored) → IsLuminance y → stored_at (index_of (Luminance.Lit y)) ≡ y
+pub index_stored : (y : Stored) → IsLuminance y → stored_at (index_of (Some y)) ≡ y
 index_stored y h = ap₂ (λ (x m : ℕ). record { exponent = x; mantissa = m }) (omega arith) (omega arith)
 
-pub index_range : (y : Stored) → IsLuminance y → (128 ≤ index_of (Luminance.Lit y)) × (index_of (Luminance.Lit y) < index_count)
+pub index_range : (y : Stored) → IsLuminance y → (128 ≤ index_of (Some y)) × (index_of (Some y) < index_count)
 index_range y h = (omega arith, omega arith)
 
 -- ---- a hundredth of a number s
@@ -44,7 +44,7 @@ module _ {s t k : ℕ} (c : IsCut s t k) where
 
   -- The digits 6400 are left out: a hundred times a power of two has them, and so have numbers just above.
   cut_index : (e d : ℕ) → d + 69 ≡ k + e → (t ≡ 6400 → ⊥)
-      → 128 * d + min (t / 25 - 128) (t / 25 / 2) ≡ index_of (Luminance.Lit (stored_of (s * 2 ^ e over 100 * unit)))
+      → 128 * d + min (t / 25 - 128) (t / 25 / 2) ≡ index_of (Some (stored_of (s * 2 ^ e over 100 * unit)))
   cut_index e d h other = by (dec_le t 6400)
     where
       low : (q : ℕ) → q < 256 → 128 * d + min (q - 128) (q / 2) ≡ 128 * (d + 66 - 66) + (q - 128)
@@ -54,19 +54,22 @@ module _ {s t k : ℕ} (c : IsCut s t k) where
       high q l = omega arith
 
       by : Dec (t ≤ 6400)
-          → 128 * d + min (t / 25 - 128) (t / 25 / 2) ≡ index_of (Luminance.Lit (stored_of (s * 2 ^ e over 100 * unit)))
+          → 128 * d + min (t / 25 - 128) (t / 25 / 2) ≡ index_of (Some (stored_of (s * 2 ^ e over 100 * unit)))
       by (yes l) =
           let below : t < 6400 = lt_of_not-le (λ g. other (omega arith)) in
           low (t / 25) (omega arith)
-          ∙ sym (ap (λ (y : Stored). index_of (Luminance.Lit y))
+          ∙ sym (ap (λ (y : Stored). index_of (Some y))
           (scaled_stored s e (k + 6) (t / 25) (d + 66) (omega arith) (scaled 6 (t / 25) (omega arith) (omega arith) (omega arith) (omega arith))))
       by (no l) =
           high (t / 25) (omega arith)
-          ∙ sym (ap (λ (y : Stored). index_of (Luminance.Lit y))
+          ∙ sym (ap (λ (y : Stored). index_of (Some y))
           (scaled_stored s e (k + 7) (t / 25 / 2) (d + 67) (omega arith)
           (scaled 7 (t / 25 / 2) (omega arith) (omega arith) (omega arith) (omega arith))))
 
 -- ---- the sum of three channels
+
+pub entry_most : (weight i : ℕ) (entries : List ℕ) → IsWeightTable weight entries → i < 48 → get_or entries i 0 ≤ weight * 2 ^ 47
+entry_most weight i entries t h = rw (t.entry i h) (mul-le-mul_left weight (pow_mono {i = i} {j = 47} (omega arith)))
 
 -- c is lit with the exponent and the mantissa of the code n
 abbrev pub LitAt : (n : ℕ) (c : Channel) → Type 0
@@ -121,10 +124,10 @@ module _ (p : Pixel) {m n l x z s : ℕ} (y : ℕ) (red : Coded m p.red) (green 
       by (inl r) (inl g) (inl b) = absurd (some r g b)
 
   -- the index of the sum's hundredth is that of the luminance
-  pub sum_index : index_of (Luminance.Lit (stored_of (s * 2 ^ (n / 256 - y) over 100 * unit))) ≡ index_of (luminance_of p)
+  pub sum_index : index_of (Some (stored_of (s * 2 ^ (n / 256 - y) over 100 * unit))) ≡ index_of (luminance_of p)
   sum_index =
       let least = all_lit.1.1.least in
-      ap (λ (n : ℕ). index_of (Luminance.Lit (stored_of (n over 100 * unit))))
+      ap (λ (n : ℕ). index_of (Some (stored_of (n over 100 * unit))))
       (gather (2 * (m % 256) + 1) (2 * (n % 256) + 1) (2 * (l % 256) + 1) x y z (m / 256) (n / 256) (l / 256) (n / 256 - y) s sum
       (omega (arith, least)) (omega (arith, least)) (omega (arith, least))
       ∙ sym (rw (all_lit.0.0, all_lit.1.0, all_lit.2.0)))

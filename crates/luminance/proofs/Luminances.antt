@@ -24,9 +24,9 @@ use Rattle.number.specs.declared.channel.Pixel.{Pixel}
 use Rattle.number.specs.declared.ratio.Stored.{Stored}
 use Rattle.luminance.specs.Pixels.{IsPixel, code_pixel, exact_luminance, is_black, luminance_of, IsLuminance}
 use Rattle.luminance.specs.Claims.{LuminanceInRange}
-use Rattle.luminance.specs.declared.pixel.Luminance.{Luminance}
-use Rattle.luminance.specs.declared.pixel.Luminance.TheVariants.{Unlit}
 use Rattle.luminance.proofs.Storables.{StoresAs, shut}
+use Rattle.std.specs.Prelude.{None, Some}
+use Rattle.luminance.specs.Pixels.{Luminance}
 
 -- any three numbers have a pixel of channels
 pub code_pixel_law : (r g b : ℕ) → IsPixel (code_pixel r g b)
@@ -34,29 +34,29 @@ code_pixel_law r g b = record { red = code_valid r; green = code_valid g; blue =
 
 -- by the three tests
 abbrev told : (p : Pixel) (r g b : Bool) → Luminance
-told p r g b = cond (not r || not g || not b) (Luminance.Lit (stored_of (exact_luminance p))) Unlit
+told p r g b = cond (not r || not g || not b) (Some (stored_of (exact_luminance p))) None
 
 by_tests : (p : Pixel) → luminance_of p ≡ told p (is_black p.red) (is_black p.green) (is_black p.blue)
 unfolding luminance_of
 by_tests p = refl
 
 -- one lit channel is enough
-pub red_lit : (p : Pixel) → is_black p.red ≡ false → luminance_of p ≡ Luminance.Lit (stored_of (exact_luminance p))
+pub red_lit : (p : Pixel) → is_black p.red ≡ false → luminance_of p ≡ Some (stored_of (exact_luminance p))
 red_lit p h = by_tests p ∙ rw h
 
 -- by numbers that are 0 for black channels only
 module _ (p : Pixel) (e e' e'' : ℕ) (red : is_black p.red ≡ eqb e 0) (green : is_black p.green ≡ eqb e' 0)
     (blue : is_black p.blue ≡ eqb e'' 0) where
-  pub unlit : e + e' + e'' ≡ 0 → luminance_of p ≡ Unlit
+  pub unlit : e + e' + e'' ≡ 0 → luminance_of p ≡ None
   unlit h =
       let z : e ≡ 0 = omega arith in let z' : e' ≡ 0 = omega arith in let z'' : e'' ≡ 0 = omega arith in
       by_tests p ∙ rw (red, green, blue, z, z', z'')
 
-  lit : (e + e' + e'' ≡ 0 → ⊥) → luminance_of p ≡ Luminance.Lit (stored_of (exact_luminance p))
+  lit : (e + e' + e'' ≡ 0 → ⊥) → luminance_of p ≡ Some (stored_of (exact_luminance p))
   lit h = by_tests p ∙ rw (red, green, blue) (by (eqb e 0) (eqb e' 0) (eqb e'' 0) refl refl refl)
     where
       by : (a b c : Bool) → eqb e 0 ≡ a → eqb e' 0 ≡ b → eqb e'' 0 ≡ c
-          → told p a b c ≡ Luminance.Lit (stored_of (exact_luminance p))
+          → told p a b c ≡ Some (stored_of (exact_luminance p))
       by true true true z z' z'' = absurd (h (omega (arith, eqb-true e 0 z, eqb-true e' 0 z', eqb-true e'' 0 z'')))
       by true true false z z' z'' = refl
       by true false c z z' z'' = refl
@@ -65,10 +65,10 @@ module _ (p : Pixel) (e e' e'' : ℕ) (red : is_black p.red ≡ eqb e 0) (green 
   -- from the parts that the channels have in the sum
   pub lit_sum : (s : Stored) (n : ℕ) → s ≡ stored_of (n over 100 * unit)
       → n ≡ 27 * (worth_of p.red).num + 67 * (worth_of p.green).num + 6 * (worth_of p.blue).num
-      → (e + e' + e'' ≡ 0 → ⊥) → Luminance.Lit s ≡ luminance_of p
+      → (e + e' + e'' ≡ 0 → ⊥) → Some s ≡ luminance_of p
   lit_sum s n h k l =
       let sum : n ≡ (exact_luminance p).num = omega arith in
-      ap Luminance.Lit (h ∙ ap (λ (x : ℕ). stored_of (x over 100 * unit)) sum) ∙ sym (lit l)
+      ap Some (h ∙ ap (λ (x : ℕ). stored_of (x over 100 * unit)) sum) ∙ sym (lit l)
 
 -- ---- where luminances lie
 
@@ -92,11 +92,11 @@ module _ (p : Pixel) (valid : IsPixel p) where
   pos = mul-pos {m = 100} (lit< tt) unit_pos
 
   -- a lit pixel has a lit channel
-  lit_channel : (y : Stored) → luminance_of p ≡ Luminance.Lit y → (6 * (257 * 2 ^ 72) ≤ sum) × (y ≡ stored_of (exact_luminance p))
+  lit_channel : (y : Stored) → luminance_of p ≡ Some y → (6 * (257 * 2 ^ 72) ≤ sum) × (y ≡ stored_of (exact_luminance p))
   lit_channel y e = by (is_black p.red) (is_black p.green) (is_black p.blue) refl refl refl (sym (by_tests p) ∙ e)
     where
       by : (r g b : Bool) → is_black p.red ≡ r → is_black p.green ≡ g → is_black p.blue ≡ b
-          → told p r g b ≡ Luminance.Lit y
+          → told p r g b ≡ Some y
           → (6 * (257 * 2 ^ 72) ≤ sum) × (y ≡ stored_of (exact_luminance p))
       by true true true r g b e = let clash : suc zero ≡ zero = cc in (omega arith, cc)
       by true true false r g b e = (omega (arith, channel_least p.blue valid.blue b), cc)
@@ -146,10 +146,10 @@ module _ (p : Pixel) (valid : IsPixel p) where
         }
 
   -- the luminance of a lit pixel is what is stored of its exact luminance, and lies from (67,246) to (184,255)
-  pub luminance_stores : (y : Stored) → luminance_of p ≡ Luminance.Lit y → StoresAs (exact_luminance p) y
+  pub luminance_stores : (y : Stored) → luminance_of p ≡ Some y → StoresAs (exact_luminance p) y
   luminance_stores y e = let k = lit_channel y e in subst (StoresAs (exact_luminance p)) (sym k.1) (stores k.0)
 
-  pub luminance_range : (y : Stored) → luminance_of p ≡ Luminance.Lit y → IsLuminance y
+  pub luminance_range : (y : Stored) → luminance_of p ≡ Some y → IsLuminance y
   luminance_range y e = let k = lit_channel y e in subst IsLuminance (sym k.1) (range k.0)
 
 -- "E is 67 to 184."

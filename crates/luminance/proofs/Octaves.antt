@@ -8,8 +8,8 @@ use Rattle.number.specs.declared.channel.Pixel.{Pixel}
 use Rattle.number.specs.declared.ratio.Stored.{Stored}
 use Rattle.luminance.specs.Pixels.{code_pixel, luminance_of}
 use Rattle.luminance.specs.loops.Codes.{index_of, octave_index, near_place, near_sum, near_index, IsNear}
-use Rattle.luminance.specs.declared.pixel.Luminance.{Luminance}
 use Rattle.luminance.proofs.Indices.{scaled_stored, all_lit, sum_index}
+use Rattle.std.specs.Prelude.{Some}
 
 -- of a quotient from 128 on: j octaves up, with the mantissa M
 record Octave (q : ℕ) : Type 0 where
@@ -41,7 +41,7 @@ octave_placed i E j M fits e least low other = (lt_of_not-le (λ g. other (omega
 
 -- The mantissa 128 is left out: a hundred times a power of two seems to have it, and has the greatest of the octave below.
 octave_index_law : (s q e d : ℕ) → q ≡ s / 64 / 25 → d + 63 ≡ e → (o : Octave q) → 128 < o.M
-    → 128 * (d + o.j) + (o.M - 128) ≡ index_of (Luminance.Lit (stored_of (s * 2 ^ e over 100 * unit)))
+    → 128 * (d + o.j) + (o.M - 128) ≡ index_of (Some (stored_of (s * 2 ^ e over 100 * unit)))
 octave_index_law s q e d quotient h o above =
     let j = o.j in
     let M = o.M in
@@ -50,13 +50,13 @@ octave_index_law s q e d quotient h o above =
     let floor : M * (100 * 2 ^ (12 + j)) ≤ 256 * s = rw power (omega (arith, o.floor)) in
     let ceiling : 256 * s < (M + 1) * (100 * 2 ^ (12 + j)) = rw power (omega (arith, o.ceiling)) in
     ap (λ (x : ℕ). 128 * x + (M - 128)) {x = d + j} {y = d + j + 66 - 66} (omega arith)
-    ∙ sym (ap (λ (y : Stored). index_of (Luminance.Lit y))
+    ∙ sym (ap (λ (y : Stored). index_of (Some y))
     (scaled_stored s e (12 + j) M (d + j + 66) (omega arith)
     (record { normalised = cell (omega (arith, half)) o.most (omega (arith, floor)) (omega (arith, ceiling)) })))
 
 -- both together, for the exponent E of green
 octave_placed_law : (s i E : ℕ) → Octave (s / 64 / 25) → i < 2 ^ 16 → (i + 8704) % 2 ^ 16 ≡ 128 * E + octave_index (s / 64 / 25)
-    → 72 ≤ E → (i % 128 ≡ 0 → ⊥) → i ≡ index_of (Luminance.Lit (stored_of (s * 2 ^ (E - 4) over 100 * unit)))
+    → 72 ≤ E → (i % 128 ≡ 0 → ⊥) → i ≡ index_of (Some (stored_of (s * 2 ^ (E - 4) over 100 * unit)))
 octave_placed_law s i E o fits e low other =
     let placed = octave_placed i E o.j o.M fits (rw o.index at e) o.least low other in
     placed.2 ∙ octave_index_law s (s / 64 / 25) (E - 4) (E - 67) refl placed.1 o placed.0
@@ -81,10 +81,6 @@ module _ (p : Pixel) {m n l x z s : ℕ} (red : Coded m p.red) (green : Coded n 
 
 -- ---- the index by codes, in each of its cases
 
--- what a subtraction modulo 2^16 leaves
-wrapped : (i a b : ℕ) → i < 2 ^ 16 → b ≤ 2 ^ 16 → (i + b) % 2 ^ 16 ≡ a → i ≡ (a + 2 ^ 16 - b) % 2 ^ 16
-wrapped i a b h k e = omega arith
-
 module _ (m n l : ℕ) where
   pub near_black : n / 256 ≡ 0 → near_index m n l ≡ 0
   unfolding near_index
@@ -108,12 +104,15 @@ module _ (m n l : ℕ) where
       all_near h = simp (ne_eqb (n / 256) 0 lit, lt-ltb (near_place l n) 8 blue, lt-ltb (near_place m n) 8 h)
 
       -- as the code works it out
-      pub worked_out : (s o i : ℕ) → near_place m n < 8 → s ≡ sum → o ≡ octave_index (s / 64 / 25) → i < 2 ^ 16
-          → (i + 8704) % 2 ^ 16 ≡ 128 * (n / 256) + o → i ≡ near_index m n l
-      worked_out s o i red e f fits g =
-          wrapped i (128 * (n / 256) + o) 8704 fits (omega arith) g
+      pub worked_out : (s o : ℕ) → near_place m n < 8 → s ≡ sum → o ≡ octave_index (s / 64 / 25)
+          → (128 * (n / 256) + o + (2 ^ 16 - 8704)) % 2 ^ 16 ≡ near_index m n l
+      worked_out s o red e f =
+          regroup (128 * (n / 256) + o)
           ∙ ap (λ (v : ℕ). (128 * (n / 256) + v + 2 ^ 16 - 8704) % 2 ^ 16) (f ∙ ap (λ (t : ℕ). octave_index (t / 64 / 25)) e)
           ∙ sym (all_near red)
+        where
+          regroup : (a : ℕ) → (a + (2 ^ 16 - 8704)) % 2 ^ 16 ≡ (a + 2 ^ 16 - 8704) % 2 ^ 16
+          regroup a = omega arith
 
 -- ---- it is right for codes
 

@@ -1,7 +1,7 @@
 -- Sums cut from below, with one sticky bit that tells whether anything was cut off: how a term is added to one, and that it is stored
 -- as the whole sum. Assumes nothing.
-use Rattle.std.proofs.Common.{◌≡◌, ℕ, zero, suc, ◌+◌, ◌-◌, ◌*◌, ◌/◌, ◌%◌, ◌^◌, ◌<◌, ◌≤◌, min, sym, ap, ◌∙◌, subst, ap₂, mod-lt, add_comm, pow-suc, div-add-mod', sub-add_cancel, mul-div_cancel, add-one, arith, lit<, pow_pos, shr-shr}
-use native.Mathlib.Nat.{add-mul-div_right, add-mul-mod_self_right, div-div-eq-div-mul, mul-mod_left, pow-succ'}
+use Rattle.std.proofs.Common.{◌≡◌, ℕ, zero, suc, ◌+◌, ◌-◌, ◌*◌, ◌/◌, ◌%◌, ◌^◌, ◌<◌, ◌≤◌, min, sym, ap, ◌∙◌, subst, ap₂, lt_of_lt_of_le, mod-eq_of_lt, pow_mono, mod-lt, add_comm, pow-suc, div-add-mod', sub-add_cancel, mul-div_cancel, add-one, arith, lit<, pow_pos, shr-shr}
+use native.Mathlib.Nat.{add-mul-div_right, div-eq_of_lt, add-mul-mod_self_right, div-div-eq-div-mul, mul-mod_left, pow-succ'}
 use lib.Arith.{mod-mul}
 use lib.Pow.{mod-pow-add}
 use Rattle.number.proofs.Laws.{◌over◌, Scales, sticky_bit}
@@ -70,3 +70,9 @@ unfolding jam_of
 jam_scales t k b {i} {j} {M} l o s =
     subst (λ (z : ℕ). Scales (z over b * 2 ^ k) i j M) (div-add-mod' t (2 ^ k))
     (sticky_bit (t / 2 ^ k) (t % 2 ^ k) (2 ^ k) b l o (mod-lt t (pow_pos k)) s)
+
+-- where everything is cut off
+pub far : (t k : ℕ) → t < 2 ^ 63 → 64 ≤ k → 2 * (t / 2 ^ k) + min 1 (t % 2 ^ k) ≡ 0 + min 1 t
+far t k h g =
+    let l : t < 2 ^ k = lt_of_lt_of_le h (pow_mono {i = 63} {j = k} (omega arith)) in
+    ap₂ (λ (q r : ℕ). 2 * q + min 1 r) (div-eq_of_lt l) (mod-eq_of_lt l)

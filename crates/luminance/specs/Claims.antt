@@ -1,10 +1,9 @@
 -- Where the luminances of lit pixels lie. Assumes nothing.
 -- It is proved in proofs/Luminances.antt, `luminance_in_range`.
-use Rattle.std.specs.Prelude.{◌≡◌, ◌≤◌}
+use Rattle.std.specs.Prelude.{◌≡◌, ◌≤◌, Some}
 use Rattle.number.specs.declared.channel.Pixel.{Pixel}
 use Rattle.number.specs.declared.ratio.Stored.{Stored}
 use Rattle.luminance.specs.Pixels.{IsPixel, luminance_of, IsLuminance}
-use Rattle.luminance.specs.declared.pixel.Luminance.{Luminance}
 
 -- "E is 67 to 184.", and more closely, as the steps that follow ask it
 pub record HasRange (y : Stored) : Type 0 where
@@ -14,4 +13,4 @@ pub record HasRange (y : Stored) : Type 0 where
 
 -- of the luminance of every lit pixel
 abbrev pub LuminanceInRange : Type 0
-LuminanceInRange = (p : Pixel) → IsPixel p → (y : Stored) → luminance_of p ≡ Luminance.Lit y → HasRange y
+LuminanceInRange = (p : Pixel) → IsPixel p → (y : Stored) → luminance_of p ≡ Some y → HasRange y

@@ -1,13 +1,11 @@
 -- Step 1, the luminance of a pixel. Assumes nothing.
-use Rattle.std.specs.Prelude.{ℕ, ◌+◌, ◌*◌, ◌≤◌, Bool, true, false, cond, not, ◌||◌, [], ◌∷◌, pos}
+use Rattle.std.specs.Prelude.{ℕ, ◌+◌, ◌*◌, ◌≤◌, Bool, true, false, cond, not, ◌||◌, [], ◌∷◌, pos, None, Option, Some}
 use Rattle.refusal.specs.Told.{Told, holding}
 use Rattle.number.proofs.Laws.{Frac, ◌over◌, IsMantissa, IsChannel, unit, worth_of, stored_of, code_channel}
 use Rattle.number.specs.declared.channel.Channel.{Channel}
 use Rattle.number.specs.declared.channel.Channel.TheVariants.{Black, Lit}
 use Rattle.number.specs.declared.channel.Pixel.{Pixel}
 use Rattle.number.specs.declared.ratio.Stored.{Stored}
-use Rattle.luminance.specs.declared.pixel.Luminance.{Luminance}
-use Rattle.luminance.specs.declared.pixel.Luminance.TheVariants.{Unlit}
 
 -- a pixel of channels as decoding gives them
 pub record IsPixel (p : Pixel) : Type 0 where
@@ -31,14 +29,18 @@ is_black (Lit E M) = false
 abbrev pub any_lit : Pixel → Bool
 any_lit p = not (is_black p.red) || not (is_black p.green) || not (is_black p.blue)
 
+-- a luminance, or none: the pixel is unlit
+abbrev pub Luminance : Type 0
+Luminance = Option Stored
+
 -- "stored as above. All black: the pixel is unlit."
 unfoldable pub luminance_of : Pixel → Luminance
-luminance_of p = cond (any_lit p) (Luminance.Lit (stored_of (exact_luminance p))) Unlit
+luminance_of p = cond (any_lit p) (Some (stored_of (exact_luminance p))) None
 
 -- in numbers: 0, or 1 with E and M
 abbrev pub luminance_told : Luminance → Told
-luminance_told Unlit = holding (pos 0 ∷ [])
-luminance_told (Luminance.Lit y) = holding (pos 1 ∷ pos y.exponent ∷ pos y.mantissa ∷ [])
+luminance_told None = holding (pos 0 ∷ [])
+luminance_told (Some y) = holding (pos 1 ∷ pos y.exponent ∷ pos y.mantissa ∷ [])
 
 -- where luminances lie: "E is 67 to 184", and more closely, from (67,246) to (184,255)
 pub record IsLuminance (y : Stored) : Type 0 where

@@ -4,8 +4,8 @@ ghost use Rattle.number.proofs.Laws.{IsCode, code_channel};
 ghost use Rattle.luminance.specs.Pixels.{code_pixel, luminance_of, luminance_told};
 ghost use Rattle.luminance.specs.loops.Codes.{index_of, stored_at, IsWeightTable, IsCut};
 
-use crate::pixel::{Luminance, pixel_luminance};
-use number::channel::{Channel, Decoded, Pixel, code_to_channel};
+use crate::pixel::pixel_luminance;
+use number::channel::{Channel, Pixel, code_to_channel};
 use number::ratio::Stored;
 
 // The weight times each power of two from 2^0 to 2^47.
@@ -14,17 +14,13 @@ fn weight_table(weight: u64) -> [u64; 48]
     ensures { IsWeightTable weight result }
 {
     let mut table = [0; 48];
-    let mut entry = weight;
-    let mut i = 0;
-    while i < 48 {
-        table[i] = entry;
-        entry = 2 * entry;
-        i += 1;
+    for i in 0..48 {
+        table[i] = weight << i;
     }
     table
 }
 
-// The weights of red.
+// The weights of red. Red and blue have a function each, so that no caller has to show a weight's limit.
 pub fn red_weights() -> [u64; 48]
     ensures { IsWeightTable 27 result }
 {
@@ -43,7 +39,7 @@ fn place_of(exponent: u64, green: u64) -> u64
     requires { (exponent ≤ 255) × (green ≤ 255) }
     ensures { result < 48 → result + green ≡ exponent + 24 }
 {
-    std::num::wrapping_sub_u64(exponent + 24, green)
+    (exponent + 24).wrapping_sub(green)
 }
 
 // 67 * 2^24, the weight of green at its own exponent.
@@ -69,7 +65,7 @@ fn cut(sum: u64) -> CutSum
     requires { (4096 ≤ sum) × (sum < 2 ^ 63) }
     ensures { IsCut sum result.digits result.shift }
 {
-    let shift = 50 - u64::leading_zeros(2 * sum + 1);
+    let shift = 50 - (2 * sum + 1).leading_zeros();
     CutSum {
         digits: (sum >> shift) as u32,
         shift: shift as u64,
@@ -83,28 +79,23 @@ fn cut_index(digits: u32, shift: u64, green: u64) -> u64
     ensures { result ≡ 128 * (shift + green - 93) + min (digits / 25 - 128) (digits / 25 / 2) }
 {
     let quotient = digits / 25;
-    let above = quotient - 128;
-    let half = quotient / 2;
-    let least = if above < half { above } else { half };
+    let least = (quotient - 128).min(quotient / 2);
     128 * (shift + green - 93) + least as u64
 }
 
-// The index of an unlit pixel.
+// The index of an unlit pixel. No `Option`: indices are kept in the bytes of the output, and worked out many at a time.
 const UNLIT_INDEX: u64 = 0;
 
-// The channel of a code.
+// The channel of a code, as `word::body` has it of a word.
 fn code_channel(code: u16) -> Channel
     ensures { result ≡ code_channel code }
 {
-    let decoded = code_to_channel(code);
-    let Decoded::Holds(channel) = decoded else {
-        return Channel::Black;
-    };
-    channel
+    code_to_channel(code).unwrap_or(Channel::Black)
 }
 
 // The luminance of a pixel by its codes. A number that is no code stands for black.
-pub fn code_luminance(red: u16, green: u16, blue: u16) -> Luminance
+#[tactic(auto, using(crate::proofs::Luminances::code_pixel_law))]
+pub fn code_luminance(red: u16, green: u16, blue: u16) -> Option<Stored>
     ensures answer { result ≡ luminance_of (code_pixel red green blue) }
     ensures told { luminance_told result ≡ luminance_told (luminance_of (code_pixel red green blue)) }
 {
@@ -116,17 +107,18 @@ pub fn code_luminance(red: u16, green: u16, blue: u16) -> Luminance
 }
 
 // Its index, for every pixel.
+#[tactic(auto, using(crate::proofs::Luminances::code_pixel_law, crate::proofs::Luminances::luminance_range))]
 fn general_index(red: u16, green: u16, blue: u16) -> u64
     ensures { result ≡ index_of (luminance_of (code_pixel red green blue)) }
 {
-    let luminance = code_luminance(red, green, blue);
-    let Luminance::Lit(stored) = luminance else {
+    let Some(stored) = code_luminance(red, green, blue) else {
         return UNLIT_INDEX;
     };
     128 * (stored.exponent as u64 - 66) + (stored.mantissa as u64 - 128)
 }
 
 // The index of a pixel's luminance, from the codes of its channels.
+#[tactic(auto, using(crate::proofs::Indices::black_index, crate::proofs::Indices::entry_most))]
 pub fn luminance_index(reds: &[u64; 48], blues: &[u64; 48], red: u16, green: u16, blue: u16) -> u64
     requires { IsWeightTable 27 reds.now × IsWeightTable 6 blues.now × IsCode red × IsCode green × IsCode blue }
     ensures { result ≡ index_of (luminance_of (code_pixel red green blue)) }
@@ -137,10 +129,7 @@ pub fn luminance_index(reds: &[u64; 48], blues: &[u64; 48], red: u16, green: u16
     let green_exponent = (green / 256) as u64;
     let r = place_of((red / 256) as u64, green_exponent);
     let b = place_of((blue / 256) as u64, green_exponent);
-    if 48 <= r {
-        return general_index(red, green, blue);
-    }
-    if 48 <= b {
+    if 48 <= r || 48 <= b {
         return general_index(red, green, blue);
     }
     let sum = weighted_sum(

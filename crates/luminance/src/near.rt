@@ -3,8 +3,6 @@
 ghost use Rattle.std.specs.Prelude.{◌≡◌, ◌*◌, ◌%◌, ◌^◌, ◌<◌, ◌≤◌};
 ghost use Rattle.luminance.specs.loops.Codes.{octave_index, near_place, near_sum, near_index};
 
-use number::order::lesser;
-
 // The power of two of the last three binary digits of i.
 fn power(i: u16) -> u16
     ensures power { result ≡ 2 ^ (i % 8) }
@@ -25,7 +23,7 @@ fn moved(value: u16, i: u16) -> u32
 fn near_place(code: u16, green: u16) -> u16
     ensures { result ≡ near_place code green }
 {
-    std::num::wrapping_sub_u16(code / 256 + 4, green / 256)
+    (code / 256 + 4).wrapping_sub(green / 256)
 }
 
 // The weighted sum of three channels by their codes and the places r and b of red and blue. Each weight is multiplied by twice the mantissa
@@ -43,10 +41,9 @@ fn near_sum(red: u16, green: u16, blue: u16, r: u16, b: u16) -> u32
 fn octave_index(quotient: u16) -> u16
     ensures { result ≡ octave_index quotient }
 {
-    lesser(
-        lesser(quotient, quotient / 2 + 128),
-        lesser(quotient / 4 + 256, quotient / 8 + 384),
-    )
+    let low = quotient.min(quotient / 2 + 128);
+    let high = (quotient / 4 + 256).min(quotient / 8 + 384);
+    low.min(high)
 }
 
 // 128 * 68: a quotient of 128 stands for the exponent below green's, and indices begin at 66.
@@ -62,7 +59,7 @@ pub fn near_index(red: u16, green: u16, blue: u16) -> u16
     let sum = near_sum(red, green, blue, r, b);
     let octave = octave_index((sum / 64) as u16 / 25);
     let exponent = green / 256;
-    let index = std::num::wrapping_sub_u16(128 * exponent + octave, FIRST_OCTAVE);
+    let index = (128 * exponent + octave).wrapping_sub(FIRST_OCTAVE);
     let near_red = if r < 8 { index } else { 0 };
     let near = if b < 8 { near_red } else { 0 };
     if exponent == 0 { 0 } else { near }

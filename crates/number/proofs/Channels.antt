@@ -20,51 +20,51 @@ use Rattle.number.specs.Channels.{
 }
 use Rattle.number.specs.declared.channel.Channel.{Channel}
 use Rattle.number.specs.declared.channel.Channel.TheVariants.{Black, Lit}
-use Rattle.number.specs.declared.channel.Decoded.{Decoded}
-use Rattle.number.specs.declared.channel.Decoded.TheVariants.{Holds, Refuses}
 use Rattle.number.specs.declared.ratio.Stored.{Stored}
 use Rattle.refusal.specs.declared.Refusal.{Refusal}
 use Rattle.refusal.specs.declared.Refusal.TheVariants.{TooBright, InvalidChannel}
 use Rattle.number.proofs.Scaling.{denominator_pos, rescale, above_down, at_most_up, is_mantissa}
 use Rattle.number.proofs.Storing.{unit_pos, stored_as, stored, code_order}
 use Rattle.number.proofs.Ranges.{small, within, large, small_at, within_at, large_at}
+use Rattle.std.specs.Prelude.{Err, Ok}
+use Rattle.number.specs.Channels.{Decoded}
 
 -- ---- what F becomes
 
-pub black : (F : Frac) → AtMost F (two_to_minus black_power) → channel_of F ≡ Holds Black
+pub black : (F : Frac) → AtMost F (two_to_minus black_power) → channel_of F ≡ Ok Black
 unfolding channel_of
 black F h = small _ _ F _ _ _ h
 
-lit : (F : Frac) → Below (two_to_minus black_power) F → AtMost F (two_to bright_power) → channel_of F ≡ Holds (Lit (exponent_of F) (mantissa_of F))
+lit : (F : Frac) → Below (two_to_minus black_power) F → AtMost F (two_to bright_power) → channel_of F ≡ Ok (Lit (exponent_of F) (mantissa_of F))
 unfolding channel_of
 lit F g h = within _ _ F _ _ _ g h
 
 -- by the exponent that scales F
 module _ {F : Frac} {i j M : ℕ} (s : Scales F i j M) where
-  pub black_at : j + 128 < i + least_exponent → channel_of F ≡ Holds Black
+  pub black_at : j + 128 < i + least_exponent → channel_of F ≡ Ok Black
   unfolding channel_of
   black_at h = small_at _ _ _ _ _ _ s (omega arith)
 
-  pub lit_at : i + least_exponent ≤ j + 128 → j + 128 ≤ i + greatest_exponent → channel_of F ≡ Holds (Lit (j + 128 - i) M)
+  pub lit_at : i + least_exponent ≤ j + 128 → j + 128 ≤ i + greatest_exponent → channel_of F ≡ Ok (Lit (j + 128 - i) M)
   unfolding channel_of
   lit_at g h =
       let stores : stored_of F ≡ record { exponent = j + 128 - i; mantissa = M } =
       stored_as (rescale s (omega arith)) (record { cross = refl }) (denominator_pos s) in
-      within_at _ _ _ _ _ _ s (omega arith) (omega arith) ∙ ap (λ (r : Stored). Holds (Lit r.exponent r.mantissa)) stores
+      within_at _ _ _ _ _ _ s (omega arith) (omega arith) ∙ ap (λ (r : Stored). Ok (Lit r.exponent r.mantissa)) stores
 
-  pub bright_at : i + greatest_exponent < j + 128 → channel_of F ≡ Refuses TooBright
+  pub bright_at : i + greatest_exponent < j + 128 → channel_of F ≡ Err TooBright
   unfolding channel_of
   bright_at h = large_at _ _ _ _ _ _ s (omega arith)
 
 -- what holds a channel holds the one that is in it
-pub held : {d : Decoded} {c : Channel} → d ≡ Holds c → d ≡ Holds (channel_in d)
-held e = e ∙ ap (λ x. Holds (channel_in x)) (sym e)
+pub held : {d : Decoded} {c : Channel} → d ≡ Ok c → d ≡ Ok (channel_in d)
+held e = e ∙ ap (λ x. Ok (channel_in x)) (sym e)
 
 -- what is at most 2^56 is not refused
-pub not_bright : (F : Frac) → AtMost F (two_to bright_power) → channel_of F ≡ Holds (channel_in (channel_of F))
+pub not_bright : (F : Frac) → AtMost F (two_to bright_power) → channel_of F ≡ Ok (channel_in (channel_of F))
 not_bright F h = go (dec_le (F.num * 2 ^ black_power) (1 * F.den))
   where
-    go : Dec (F.num * 2 ^ black_power ≤ 1 * F.den) → channel_of F ≡ Holds (channel_in (channel_of F))
+    go : Dec (F.num * 2 ^ black_power ≤ 1 * F.den) → channel_of F ≡ Ok (channel_in (channel_of F))
     go (yes a) = held (black F (record { cross = a }))
     go (no a) = held (lit F (record { cross = lt_of_not-le a }) h)
 
@@ -78,29 +78,29 @@ lit_valid s a b =
     }
 
 -- every channel that a number becomes is one
-pub channel_valid : (F : Frac) → 0 < F.den → (c : Channel) → channel_of F ≡ Holds c → IsChannel c
+pub channel_valid : (F : Frac) → 0 < F.den → (c : Channel) → channel_of F ≡ Ok c → IsChannel c
 unfolding channel_of
 channel_valid F p c h = go (dec_le (F.num * 2 ^ black_power) (1 * F.den)) (dec_le (F.num * 1) (2 ^ bright_power * F.den))
   where
     go : Dec (F.num * 2 ^ black_power ≤ 1 * F.den) → Dec (F.num * 1 ≤ 2 ^ bright_power * F.den) → IsChannel c
     go (yes a) b =
-        let q : channel_of F ≡ Holds Black = black F (record { cross = a }) in
+        let q : channel_of F ≡ Ok Black = black F (record { cross = a }) in
         let e : Black ≡ c = cc in
         subst IsChannel e tt
     go (no a) (yes b) =
         let low : Below (two_to_minus black_power) F = record { cross = lt_of_not-le a } in
         let high : AtMost F (two_to bright_power) = record { cross = b } in
-        let q : channel_of F ≡ Holds (Lit (exponent_of F) (mantissa_of F)) = lit F low high in
+        let q : channel_of F ≡ Ok (Lit (exponent_of F) (mantissa_of F)) = lit F low high in
         let e : Lit (exponent_of F) (mantissa_of F) ≡ c = cc in
         subst IsChannel e (lit_valid (stored F black_power (lit≤ tt) p low) low high)
     go (no a) (no b) =
-        let q : channel_of F ≡ Refuses TooBright = large _ _ F _ _ _ (record { cross = lt_of_not-le b }) in
+        let q : channel_of F ≡ Err TooBright = large _ _ F _ _ _ (record { cross = lt_of_not-le b }) in
         let z : ◌≡◌ {A = ℕ} 0 1 = cc in
         absurd (omega arith)
 
 -- ---- the 16-bit form and the channel determine each other
 
-pub code_channel_law : (c : Channel) → IsChannel c → channel_of_code (code_of c) ≡ Holds c
+pub code_channel_law : (c : Channel) → IsChannel c → channel_of_code (code_of c) ≡ Ok c
 unfolding channel_of_code
 code_channel_law Black t = refl
 code_channel_law (Lit E M) t =
@@ -116,17 +116,17 @@ code_channel_law (Lit E M) t =
     )
 
 -- what is refused is so by 8 alone
-pub code_refused : (n : ℕ) (r : Refusal) → channel_of_code n ≡ Refuses r → r ≡ InvalidChannel
+pub code_refused : (n : ℕ) (r : Refusal) → channel_of_code n ≡ Err r → r ≡ InvalidChannel
 unfolding channel_of_code
 code_refused n r h = go (eqb n 0) (leb least_exponent (n / 256) && leb (n / 256) greatest_exponent && leb least_mantissa (n % 256)) h
   where
-    go : (z b : Bool) → cond z (Holds Black) (cond b (Holds (Lit (n / 256) (n % 256))) (Refuses InvalidChannel)) ≡ Refuses r
+    go : (z b : Bool) → cond z (Ok Black) (cond b (Ok (Lit (n / 256) (n % 256))) (Err InvalidChannel)) ≡ Err r
         → r ≡ InvalidChannel
     go true b q = cc
     go false true q = cc
     go false false q = cc
 
-pub channel_code : (n : ℕ) (c : Channel) → channel_of_code n ≡ Holds c → Coded n c
+pub channel_code : (n : ℕ) (c : Channel) → channel_of_code n ≡ Ok c → Coded n c
 unfolding channel_of_code
 channel_code n c h = go (eqb n 0) (leb least_exponent E) (leb E greatest_exponent) (leb least_mantissa M) refl refl refl refl h
   where
@@ -137,7 +137,7 @@ channel_code n c h = go (eqb n 0) (leb least_exponent E) (leb E greatest_exponen
     M = n % 256
 
     go : (z a b d : Bool) → eqb n 0 ≡ z → leb least_exponent E ≡ a → leb E greatest_exponent ≡ b → leb least_mantissa M ≡ d
-        → cond z (Holds Black) (cond (a && b && d) (Holds (Lit E M)) (Refuses InvalidChannel)) ≡ Holds c → Coded n c
+        → cond z (Ok Black) (cond (a && b && d) (Ok (Lit E M)) (Err InvalidChannel)) ≡ Ok c → Coded n c
     go true a b d z₁ a₁ b₁ d₁ q =
         let e : Black ≡ c = cc in subst (Coded n) e (record { code = sym (eqb-true n 0 z₁); valid = tt })
     go false true true true z₁ a₁ b₁ d₁ q =
@@ -160,8 +160,8 @@ pub code_valid : (n : ℕ) → IsChannel (code_channel n)
 code_valid n = by (channel_of_code n) refl
   where
     by : (d : Decoded) → channel_of_code n ≡ d → IsChannel (channel_in d)
-    by (Holds c) e = (channel_code n c e).valid
-    by (Refuses r) e = tt
+    by (Ok c) e = (channel_code n c e).valid
+    by (Err r) e = tt
 
 -- the order of the 16-bit forms is that of the worths
 pub channel_order : (c c' : Channel) → IsChannel c → IsChannel c' → (code_of c < code_of c') ↔ Below (worth_of c) (worth_of c')

@@ -7,10 +7,10 @@ use Rattle.number.specs.Channels.{bright_power, channel_of, channel_in, code_of}
 use Rattle.number.specs.Sources.{channel_of_value, field_value, half_value, magnitude}
 use Rattle.number.specs.loops.Halves.{half_code, NotSubnormal, plain_half_code}
 use Rattle.number.specs.declared.channel.Channel.TheVariants.{Black, Lit}
-use Rattle.number.specs.declared.channel.Decoded.TheVariants.{Holds}
 use Rattle.number.proofs.Scaling.{rescale, whole_powers_into}
 use Rattle.number.proofs.Channels.{black, lit_at, held, not_bright}
 use Rattle.number.proofs.Sources.{normal, refused, negative, positive}
+use Rattle.std.specs.Prelude.{Ok}
 
 -- the fields of a half
 abbrev sign_of : ℕ → ℕ
@@ -33,7 +33,7 @@ least = record { normalised = omega arith }
 
 -- with the power of its field x
 powered : {m j M : ℕ} (x : ℕ) → 1 ≤ x → x ≤ 30 → 10 ≤ j → j ≤ 11 → Scales (m over 1) 0 j M
-    → channel_of (m * 2 ^ (x - 1) over 2 ^ 24) ≡ Holds (Lit (x + 103 + j) M)
+    → channel_of (m * 2 ^ (x - 1) over 2 ^ 24) ≡ Ok (Lit (x + 103 + j) M)
 powered {j = j} x a b c d s =
     let E = x + 103 + j in
     let scaled = whole_powers_into {i = 128} {j = E} (x - 1) 24 (rescale s (omega arith)) in
@@ -42,7 +42,7 @@ powered {j = j} x a b c d s =
 
 module _ (b : ℕ) (low : 1024 ≤ b) (high : b < 31744) where
   lit : {j M : ℕ} → 10 ≤ j → j ≤ 11 → Scales (1024 + fraction_of b over 1) 0 j M
-      → channel_of_value (half_value b) ≡ Holds (Lit (b / 1024 + 103 + j) M)
+      → channel_of_value (half_value b) ≡ Ok (Lit (b / 1024 + 103 + j) M)
   lit g h s =
       let x : field_of b ≡ b / 1024 = omega arith in
       positive 1024 31 24 (sign_of b) (field_of b) (fraction_of b) (omega arith) (omega arith)
@@ -59,7 +59,7 @@ module _ (b : ℕ) (low : 1024 ≤ b) (high : b < 31744) where
 
 -- ---- 0, and every pattern behind the greatest normal half: infinity, what is no number, and the negative numbers
 
-zero_black : channel_of_value (half_value 0) ≡ Holds Black
+zero_black : channel_of_value (half_value 0) ≡ Ok Black
 unfolding channel_of_value field_value
 zero_black = black _ (record { cross = omega arith })
 
@@ -113,10 +113,10 @@ bounded (suc x) t g h =
     let k : 1024 + t ≤ 2048 = omega arith in
     record { cross = omega (arith, mul-le-mul k (pow_mono {i = x} {j = 31} (omega arith))) }
 
-pub half_finite : (b : ℕ) → b % 32768 < 31744 → channel_of_value (half_value b) ≡ Holds (channel_in (channel_of_value (half_value b)))
+pub half_finite : (b : ℕ) → b % 32768 < 31744 → channel_of_value (half_value b) ≡ Ok (channel_in (channel_of_value (half_value b)))
 half_finite b h = go (dec_le 1 (sign_of b))
   where
-    go : Dec (1 ≤ sign_of b) → channel_of_value (half_value b) ≡ Holds (channel_in (channel_of_value (half_value b)))
+    go : Dec (1 ≤ sign_of b) → channel_of_value (half_value b) ≡ Ok (channel_in (channel_of_value (half_value b)))
     go (yes a) = held (negative 1024 31 24 (sign_of b) (field_of b) (fraction_of b) (λ e. omega arith) (λ e. omega arith))
     go (no a) =
         held (positive 1024 31 24 (sign_of b) (field_of b) (fraction_of b) (λ e. omega arith) (omega arith)

@@ -18,10 +18,10 @@ use Rattle.number.specs.Sources.{
 use Rattle.number.specs.Claims.{LitRange, LitInRange}
 use Rattle.number.specs.declared.channel.Channel.{Channel}
 use Rattle.number.specs.declared.channel.Channel.TheVariants.{Black, Lit}
-use Rattle.number.specs.declared.channel.Decoded.TheVariants.{Holds, Refuses}
 use Rattle.refusal.specs.declared.Refusal.TheVariants.{NotANumber}
 use Rattle.number.proofs.Storing.{unit_pos}
 use Rattle.number.proofs.Channels.{channel_valid, channel_code}
+use Rattle.std.specs.Prelude.{Err, Ok}
 
 -- ---- by the fields
 
@@ -33,11 +33,11 @@ normal hidden low zero t f = absurd (f refl)
 normal hidden low (suc x) t f = let e : x ≡ suc x - 1 = omega arith in ap (λ (z : ℕ). (hidden + t) * 2 ^ z over 2 ^ low) e
 
 module _ (hidden ones low s x t : ℕ) where
-  pub refused : x ≡ ones → channel_of_value (field_value hidden ones low s x t) ≡ Refuses NotANumber
+  pub refused : x ≡ ones → channel_of_value (field_value hidden ones low s x t) ≡ Err NotANumber
   unfolding field_value channel_of_value
   refused e = simp (eq-eqb _ _ e)
 
-  pub negative : (x ≡ ones → ⊥) → (s ≡ 0 → ⊥) → channel_of_value (field_value hidden ones low s x t) ≡ Holds Black
+  pub negative : (x ≡ ones → ⊥) → (s ≡ 0 → ⊥) → channel_of_value (field_value hidden ones low s x t) ≡ Ok Black
   unfolding field_value channel_of_value
   negative f g = simp (ne_eqb _ _ f, ne_eqb _ _ g)
 
@@ -49,7 +49,7 @@ module _ (hidden ones low s x t : ℕ) where
 
 module _ (c : Channel) where
   Valid : Value → Type 0
-  Valid v = channel_of_value v ≡ Holds c → IsChannel c
+  Valid v = channel_of_value v ≡ Ok c → IsChannel c
 
   valid_plus : (x : Frac) → 0 < x.den → Valid (plus x)
   unfolding Valid channel_of_value
@@ -72,7 +72,7 @@ module _ (c : Channel) where
   magnitude_pos hidden low zero t = pow_pos low
   magnitude_pos hidden low (suc x) t = pow_pos low
 
-  field_valid : (hidden ones low s x t : ℕ) → channel_of_value (field_value hidden ones low s x t) ≡ Holds c → IsChannel c
+  field_valid : (hidden ones low s x t : ℕ) → channel_of_value (field_value hidden ones low s x t) ≡ Ok c → IsChannel c
   unfolding field_value Valid
   field_valid hidden ones low s x t = valid_signed (eqb x ones) (eqb s 0) (magnitude hidden low x t) (magnitude_pos hidden low x t)
 
@@ -80,13 +80,13 @@ module _ (c : Channel) where
   valid_worth true m e = valid_plus (0 over unit) unit_pos
   valid_worth false m e = valid_plus (worth e m) unit_pos
 
-  pub half_valid : (b : ℕ) → channel_of_value (half_value b) ≡ Holds c → IsChannel c
+  pub half_valid : (b : ℕ) → channel_of_value (half_value b) ≡ Ok c → IsChannel c
   half_valid b h = field_valid _ _ _ _ _ _ h
 
-  pub single_valid : (b : ℕ) → channel_of_value (single_value b) ≡ Holds c → IsChannel c
+  pub single_valid : (b : ℕ) → channel_of_value (single_value b) ≡ Ok c → IsChannel c
   single_valid b h = field_valid _ _ _ _ _ _ h
 
-  pub rgbe_valid : (m e : ℕ) → channel_of_value (rgbe_value m e) ≡ Holds c → IsChannel c
+  pub rgbe_valid : (m e : ℕ) → channel_of_value (rgbe_value m e) ≡ Ok c → IsChannel c
   unfolding rgbe_value Valid
   rgbe_valid m e = valid_worth (eqb e 0) m e
 

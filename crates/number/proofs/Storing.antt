@@ -19,7 +19,6 @@ use Rattle.number.specs.Storing.{
   ratio_of,
 }
 use Rattle.number.specs.Claims.{Near, StoresByRule}
-use Rattle.number.specs.declared.ratio.StoredRatio.TheVariants.{InRange, OutOfRange}
 use Rattle.number.proofs.Scaling.{
   denominator_pos,
   scales_equal,
@@ -31,6 +30,7 @@ use Rattle.number.proofs.Scaling.{
   promised,
 }
 use Rattle.number.proofs.Ranges.{small, within, large, small_at, within_at, large_at}
+use Rattle.std.specs.Prelude.{None, Some}
 
 pub unit_pos : 0 < unit
 unfolding unit
@@ -144,20 +144,20 @@ stored_as {F} {G} {E} {M} s e p =
 
 -- ---- storing where the exponent fits eight bits
 
-pub too_small_at : {F : Frac} {i j M : ℕ} → Scales F i j M → j + 129 ≤ i → ratio_of F ≡ OutOfRange
+pub too_small_at : {F : Frac} {i j M : ℕ} → Scales F i j M → j + 129 ≤ i → ratio_of F ≡ None
 unfolding ratio_of
 too_small_at s h = small_at _ _ _ _ _ _ s h
 
-pub fits_at : {F : Frac} {E M : ℕ} → Stores F E M → E ≤ 255 → ratio_of F ≡ InRange (record { exponent = E; mantissa = M })
+pub fits_at : {F : Frac} {E M : ℕ} → Stores F E M → E ≤ 255 → ratio_of F ≡ Some (record { exponent = E; mantissa = M })
 unfolding ratio_of
-fits_at s h = within_at _ _ _ _ _ _ s (omega arith) h ∙ ap InRange (stored_as s (record { cross = refl }) (denominator_pos s))
+fits_at s h = within_at _ _ _ _ _ _ s (omega arith) h ∙ ap Some (stored_as s (record { cross = refl }) (denominator_pos s))
 
-pub too_large_at : {F : Frac} {E M : ℕ} → Stores F E M → 255 < E → ratio_of F ≡ OutOfRange
+pub too_large_at : {F : Frac} {E M : ℕ} → Stores F E M → 255 < E → ratio_of F ≡ None
 unfolding ratio_of
 too_large_at s h = large_at _ _ _ _ _ _ s h
 
 -- what is answered in range is stored
-pub in_range : {F : Frac} → ratio_of F ≡ InRange (stored_of F) → Stores F (exponent_of F) (mantissa_of F)
+pub in_range : {F : Frac} → ratio_of F ≡ Some (stored_of F) → Stores F (exponent_of F) (mantissa_of F)
 unfolding ratio_of
 in_range {F} e = by (dec_le (F.num * 2 ^ 129) (1 * F.den)) (dec_le (F.num * 1) (2 ^ 127 * F.den))
   where
@@ -165,7 +165,7 @@ in_range {F} e = by (dec_le (F.num * 2 ^ 129) (1 * F.den)) (dec_le (F.num * 1) (
     positive n zero a b h k = omega (arith, mul-le-mul_right a k)
     positive n (suc d) a b h k = omega arith
 
-    distinct : OutOfRange ≡ InRange (stored_of F) → ⊥
+    distinct : None ≡ Some (stored_of F) → ⊥
     distinct h = let clash : suc zero ≡ zero = cc in omega arith
 
     by : Dec (F.num * 2 ^ 129 ≤ 1 * F.den) → Dec (F.num * 1 ≤ 2 ^ 127 * F.den) → Stores F (exponent_of F) (mantissa_of F)
@@ -175,14 +175,14 @@ in_range {F} e = by (dec_le (F.num * 2 ^ 129) (1 * F.den)) (dec_le (F.num * 1) (
         stores_by_rule F (positive F.num F.den (2 ^ 129) (2 ^ 127) (lt_of_not-le g) h) (record { cross = lt_of_not-le g })
 
 -- and so is every fraction equal to it, alike
-module _ {F G : Frac} (r : ratio_of F ≡ InRange (stored_of F)) (e : Equal F G) (p : 0 < G.den) where
+module _ {F G : Frac} (r : ratio_of F ≡ Some (stored_of F)) (e : Equal F G) (p : 0 < G.den) where
   pub stored_alike : stored_of G ≡ stored_of F
   stored_alike = stored_as (in_range r) e p
 
   pub stores_alike : Stores G (exponent_of G) (mantissa_of G)
   stores_alike = subst (λ s. Stores G s.exponent s.mantissa) (sym stored_alike) (scales_equal (in_range r) e p)
 
-pub fits_between : {F : Frac} → Below (two_to_minus 129) F → AtMost F (two_to 127) → ratio_of F ≡ InRange (stored_of F)
+pub fits_between : {F : Frac} → Below (two_to_minus 129) F → AtMost F (two_to 127) → ratio_of F ≡ Some (stored_of F)
 unfolding ratio_of
 fits_between g h = within _ _ _ _ _ _ g h
 

@@ -7,8 +7,8 @@ use Rattle.number.specs.Storing.{exponent_at, Scales, scaled_worth, Stores, expo
 use Rattle.number.specs.Channels.{channel_of, channel_of_code}
 use Rattle.number.specs.Sources.{channel_of_value, half_value, single_value, rgbe_value}
 use Rattle.number.specs.declared.channel.Channel.TheVariants.{Lit}
-use Rattle.number.specs.declared.channel.Decoded.{Decoded}
-use Rattle.number.specs.declared.channel.Decoded.TheVariants.{Holds}
+use Rattle.std.specs.Prelude.{Ok}
+use Rattle.number.specs.Channels.{Decoded}
 
 -- ---- "E is the only whole number with 2^(E−129) < F ≤ 2^(E−128)"
 
@@ -59,7 +59,7 @@ pub record LitRange (E M : ℕ) : Type 0 where
 
 -- where d holds a lit channel, it lies there
 abbrev pub HoldsInRange : Decoded → Type 0
-HoldsInRange d = (E M : ℕ) → d ≡ Holds (Lit E M) → LitRange E M
+HoldsInRange d = (E M : ℕ) → d ≡ Ok (Lit E M) → LitRange E M
 
 -- whatever source it comes from
 pub record EverySource (Claim : Decoded → Type 0) : Type 0 where

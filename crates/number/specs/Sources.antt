@@ -4,9 +4,9 @@ use Rattle.number.specs.Fractions.{Frac, ◌over◌}
 use Rattle.number.specs.Storing.{unit, worth}
 use Rattle.number.specs.Channels.{channel_of}
 use Rattle.number.specs.declared.channel.Channel.TheVariants.{Black}
-use Rattle.number.specs.declared.channel.Decoded.{Decoded}
-use Rattle.number.specs.declared.channel.Decoded.TheVariants.{Holds, Refuses}
 use Rattle.refusal.specs.declared.Refusal.TheVariants.{NotANumber}
+use Rattle.std.specs.Prelude.{Err, Ok}
+use Rattle.number.specs.Channels.{Decoded}
 
 -- a number of either sign by its magnitude, or a NaN or an infinity
 pub data Value : Type 0 where
@@ -17,8 +17,8 @@ pub data Value : Type 0 where
 -- "Zero and finite negative values are black"; "NaN or infinity, either sign" is refused
 unfoldable pub channel_of_value : Value → Decoded
 channel_of_value (plus x) = channel_of x
-channel_of_value (minus x) = Holds Black
-channel_of_value not_finite = Refuses NotANumber
+channel_of_value (minus x) = Ok Black
+channel_of_value not_finite = Err NotANumber
 
 -- ---- "IEEE values, subnormals included", by the fields of a pattern: sign s, exponent x and fraction t
 

@@ -5,8 +5,7 @@ use Rattle.std.specs.Float.Ieee.{size}
 use Rattle.refusal.specs.Told.{Told, holding}
 use Rattle.number.specs.Fractions.{Frac, ◌over◌, by_range}
 use Rattle.number.specs.declared.ratio.Stored.{Stored}
-use Rattle.number.specs.declared.ratio.StoredRatio.{StoredRatio}
-use Rattle.number.specs.declared.ratio.StoredRatio.TheVariants.{InRange, OutOfRange}
+use Rattle.std.specs.Prelude.{None, Option, Some}
 
 -- ---- the rule, for every positive rational
 
@@ -69,10 +68,10 @@ abbrev pub stored_of : Frac → Stored
 stored_of F = record { exponent = exponent_of F; mantissa = mantissa_of F }
 
 -- F stored where E is 0 to 255, so that it fits eight bits: F above 2^-129 and at most 2^127
-unfoldable pub ratio_of : Frac → StoredRatio
-ratio_of F = by_range 129 127 F OutOfRange (InRange (stored_of F)) OutOfRange
+unfoldable pub ratio_of : Frac → Option Stored
+ratio_of F = by_range 129 127 F None (Some (stored_of F)) None
 
 -- in numbers: 0, or 1 with E and M
-abbrev pub ratio_told : StoredRatio → Told
-ratio_told OutOfRange = holding (pos 0 ∷ [])
-ratio_told (InRange s) = holding (pos 1 ∷ pos s.exponent ∷ pos s.mantissa ∷ [])
+abbrev pub ratio_told : Option Stored → Told
+ratio_told None = holding (pos 0 ∷ [])
+ratio_told (Some s) = holding (pos 1 ∷ pos s.exponent ∷ pos s.mantissa ∷ [])

@@ -4,7 +4,8 @@ ghost use Rattle.number.specs.Channels.{code_of, decoded_told, channel_of_code, 
 
 use refusal::Refusal;
 
-// A channel: black, or lit with an exponent and a mantissa.
+// A channel: black, or lit with an exponent and a mantissa. No `Option`: black is a channel of its own, and `None` would say that there is
+// none.
 #[derive(Clone, Copy)]
 pub enum Channel {
     Black,
@@ -18,13 +19,6 @@ pub struct Pixel {
     pub blue: Channel,
 }
 
-// What a number stands for: a channel, or its refusal.
-#[derive(Clone, Copy)]
-pub enum Decoded {
-    Holds(Channel),
-    Refuses(Refusal),
-}
-
 // The exponents of lit channels, and their least mantissa.
 pub const LEAST_EXPONENT: u16 = 72;
 
@@ -34,25 +28,19 @@ const LEAST_MANTISSA: u16 = 128;
 
 // The channel of a 16-bit number 256E + M, 0 for black.
 #[tactic(auto, unfolding(crate::specs::Channels::channel_of_code))]
-pub fn code_to_channel(code: u16) -> Decoded
+pub fn code_to_channel(code: u16) -> Result<Channel, Refusal>
     ensures answer { result ≡ channel_of_code code }
     ensures told { decoded_told result ≡ decoded_told (channel_of_code code) }
 {
     if code == 0 {
-        return Decoded::Holds(Channel::Black);
+        return Ok(Channel::Black);
     }
     let exponent = code >> 8;
-    if exponent < LEAST_EXPONENT {
-        return Decoded::Refuses(Refusal::InvalidChannel);
-    }
-    if GREATEST_EXPONENT < exponent {
-        return Decoded::Refuses(Refusal::InvalidChannel);
-    }
     let mantissa = code % 256;
-    if mantissa < LEAST_MANTISSA {
-        return Decoded::Refuses(Refusal::InvalidChannel);
+    if exponent < LEAST_EXPONENT || GREATEST_EXPONENT < exponent || mantissa < LEAST_MANTISSA {
+        return Err(Refusal::InvalidChannel);
     }
-    Decoded::Holds(Channel::Lit(exponent as u8, mantissa as u8))
+    Ok(Channel::Lit(exponent as u8, mantissa as u8))
 }
 
 // The 16-bit form of a channel.
@@ -66,11 +54,8 @@ pub fn channel_to_code(channel: Channel) -> u16
 }
 
 // The 16-bit form of what a number stands for; 0, black, for a refusal.
-pub fn decoded_code(decoded: Decoded) -> u16
+pub fn decoded_code(decoded: Result<Channel, Refusal>) -> u16
     ensures { result ≡ code_of (channel_in decoded) }
 {
-    match decoded {
-        Decoded::Holds(channel) => channel_to_code(channel),
-        Decoded::Refuses(_) => 0,
-    }
+    decoded.map_or(0, channel_to_code)
 }

@@ -2,7 +2,6 @@
 #![tactic(auto)]
 
 pub mod channel;
-pub mod order;
 pub mod ratio;
 pub mod source;
 pub mod whole;

@@ -4,17 +4,10 @@ ghost use Rattle.number.specs.Fractions.{◌over◌};
 ghost use Rattle.number.specs.Storing.{unit, Normalised, Scales, ratio_of, ratio_told};
 
 // A stored number: exponent E and mantissa M, worth (M + 1/2) * 2^(E - 136).
-#[derive(Clone, Copy)]
+#[derive(Clone, Copy, PartialEq, Eq, PartialOrd, Ord)]
 pub struct Stored {
     pub exponent: u8,
     pub mantissa: u8,
-}
-
-// The stored number of a ratio, or that its exponent does not fit.
-#[derive(Clone, Copy)]
-pub enum StoredRatio {
-    InRange(Stored),
-    OutOfRange,
 }
 
 // The powers of two that bring a ratio above 1/2 and at most to 1, times 2^up and divided by 2^down, with its mantissa.
@@ -32,11 +25,12 @@ struct Aligned {
     shift: u8,
 }
 
+#[tactic(auto, using(crate::proofs::Shifts::aligned))]
 fn align(v: u64) -> Aligned
     requires { 0 < v }
     ensures { (result.value ≡ v * 2 ^ result.shift) × (2 ^ 63 ≤ result.value) × (result.shift ≤ 63) }
 {
-    let shift = u64::leading_zeros(v);
+    let shift = v.leading_zeros();
     Aligned {
         value: v << shift,
         shift: shift as u8,
@@ -50,21 +44,23 @@ struct Quotient {
     rest: u64,
 }
 
-// One digit more. No sum goes beyond the divisor.
-fn next_digit(digits: u64, rest: u64, den: u64) -> Quotient
-    requires { (rest < den) × (digits < 128) }
-    ensures { (result.digits * den + result.rest ≡ 2 * (digits * den + rest)) × (result.rest < den) × (result.digits ≤ 2 * digits + 1) }
-{
-    let gap = den - rest;
-    if gap <= rest {
-        Quotient {
-            digits: 2 * digits + 1,
-            rest: rest - gap,
-        }
-    } else {
-        Quotient {
-            digits: 2 * digits,
-            rest: rest + rest,
+impl Quotient {
+    // One digit more. No sum goes beyond the divisor.
+    fn next(self, den: u64) -> Quotient
+        requires { (self.rest < den) × (self.digits < 128) }
+        ensures { (result.digits * den + result.rest ≡ 2 * (self.digits * den + self.rest)) × (result.rest < den) × (result.digits ≤ 2 * self.digits + 1) }
+    {
+        let gap = den - self.rest;
+        if gap <= self.rest {
+            Quotient {
+                digits: 2 * self.digits + 1,
+                rest: self.rest - gap,
+            }
+        } else {
+            Quotient {
+                digits: 2 * self.digits,
+                rest: 2 * self.rest,
+            }
         }
     }
 }
@@ -74,14 +70,9 @@ fn mantissa_by_digits(rest: u64, den: u64) -> u8
     requires { (0 < rest) × (rest < den) }
     ensures { Normalised (den + rest) (2 * den) result }
 {
-    let mut q = Quotient {
-        digits: 1,
-        rest: rest,
-    };
-    let mut i: u64 = 0;
-    while i < 7 {
-        q = next_digit(q.digits, q.rest, den);
-        i += 1;
+    let mut q = Quotient { digits: 1, rest };
+    for _ in 0..7u32 {
+        q = q.next(den);
     }
     q.digits as u8
 }
@@ -118,14 +109,6 @@ fn rest_of(top: u64, bottom: u64) -> u64
     }
 }
 
-// One place more for an aligned numerator that is not below the denominator.
-fn place_more(top: u64, bottom: u64) -> u8
-    ensures which { (top < bottom → result ≡ 0) × (bottom ≤ top → result ≡ 1) }
-    ensures bound { result ≤ 1 }
-{
-    if top < bottom { 0 } else { 1 }
-}
-
 // num / den, scaled to above 1/2 and at most 1.
 fn scale(num: u64, den: u64) -> Scaled
     requires { (0 < num) × (0 < den) }
@@ -144,33 +127,25 @@ fn scale(num: u64, den: u64) -> Scaled
     }
     Scaled {
         up: n.shift,
-        down: d.shift + place_more(top, bottom),
+        down: d.shift + u8::from(bottom <= top),
         mantissa: mantissa(rest_of(top, bottom), bottom),
     }
 }
 
-// num / den * 2^exp in units of 2^-137, stored.
-pub fn store_ratio(num: u64, den: u64, exp: u16) -> StoredRatio
+// num / den * 2^exp in units of 2^-137, stored; none where the exponent does not fit.
+pub fn store_ratio(num: u64, den: u64, exp: u16) -> Option<Stored>
     ensures answer { result ≡ ratio_of (num * 2 ^ exp over den * unit) }
     ensures told { ratio_told result ≡ ratio_told (ratio_of (num * 2 ^ exp over den * unit)) }
 {
-    if num == 0 {
-        return StoredRatio::OutOfRange;
-    }
-    if den == 0 {
-        return StoredRatio::OutOfRange;
+    if num == 0 || den == 0 {
+        return None;
     }
     let s = scale(num, den);
     let high = exp as u64 + s.down as u64;
     let low = s.up as u64 + 9;
-    if high < low {
-        return StoredRatio::OutOfRange;
-    }
-    if 255 < high - low {
-        return StoredRatio::OutOfRange;
-    }
-    StoredRatio::InRange(Stored {
-        exponent: (high - low) as u8,
+    let exponent = u8::try_from(high.checked_sub(low)?).ok()?;
+    Some(Stored {
+        exponent,
         mantissa: s.mantissa,
     })
 }

@@ -4,44 +4,56 @@ ghost use Rattle.number.specs.Channels.{decoded_told};
 ghost use Rattle.number.specs.Sources.{channel_of_value, field_value, half_value, single_value, rgbe_value};
 ghost use Rattle.number.specs.loops.Halves.{half_code, plain_half_code};
 
-use crate::channel::{Channel, Decoded, decoded_code};
+use crate::channel::{Channel, decoded_code};
 use crate::whole::whole_to_channel;
 use refusal::Refusal;
 
-// An IEEE number by its sign, exponent and fraction. Its format is given by the weight of the hidden digit, the exponent of all ones, and
-// the subnormal step 2^-low.
-fn float_to_channel(
+// An IEEE format: the weight of the hidden digit, the exponent of all ones, and the subnormal step 2^-low.
+#[derive(Clone, Copy)]
+struct Format {
     hidden: u32,
     ones: u8,
     low: u8,
-    sign: u32,
-    exponent: u8,
-    fraction: u32,
-) -> Decoded
-    requires { hidden + fraction < 2 ^ 32 }
-    ensures { result ≡ channel_of_value (field_value hidden ones low sign exponent fraction) }
-{
-    if exponent == ones {
-        return Decoded::Refuses(Refusal::NotANumber);
+}
+
+const HALF: Format = Format {
+    hidden: 1024,
+    ones: 31,
+    low: 24,
+};
+
+const SINGLE: Format = Format {
+    hidden: 8388608,
+    ones: 255,
+    low: 149,
+};
+
+impl Format {
+    // The channel of a number of this format, by its sign, exponent and fraction.
+    #[tactic(auto, using(crate::proofs::Sources::refused, crate::proofs::Sources::negative, crate::proofs::Sources::positive, crate::proofs::Sources::subnormal, crate::proofs::Sources::normal))]
+    fn to_channel(self, sign: u32, exponent: u8, fraction: u32) -> Result<Channel, Refusal>
+        requires { self.hidden + fraction < 2 ^ 32 }
+        ensures { result ≡ channel_of_value (field_value self.hidden self.ones self.low sign exponent fraction) }
+    {
+        if exponent == self.ones {
+            return Err(Refusal::NotANumber);
+        }
+        if sign != 0 {
+            return Ok(Channel::Black);
+        }
+        if exponent == 0 {
+            return whole_to_channel(fraction, 0, self.low);
+        }
+        whole_to_channel(self.hidden + fraction, exponent - 1, self.low)
     }
-    if sign != 0 {
-        return Decoded::Holds(Channel::Black);
-    }
-    if exponent == 0 {
-        return whole_to_channel(fraction, 0, low);
-    }
-    whole_to_channel(hidden + fraction, exponent - 1, low)
 }
 
 // A half: 1, 5 and 10 bits.
-pub fn half_to_channel(bits: u16) -> Decoded
+pub fn half_to_channel(bits: u16) -> Result<Channel, Refusal>
     ensures answer { result ≡ channel_of_value (half_value bits) }
     ensures told { decoded_told result ≡ decoded_told (channel_of_value (half_value bits)) }
 {
-    float_to_channel(
-        1024,
-        31,
-        24,
+    HALF.to_channel(
         (bits >> 15) as u32,
         ((bits >> 10) % 32) as u8,
         (bits % 1024) as u32,
@@ -62,10 +74,11 @@ pub fn plain_half_code(bits: u16) -> u16
 }
 
 // The same for any half. One less than its bits, and 65535 for 0, is below 1023 for the positive subnormal numbers alone.
+#[tactic(auto, using(crate::proofs::Halves::plain_half))]
 pub fn half_code(bits: u16) -> u16
     ensures { result ≡ half_code bits }
 {
-    if std::num::wrapping_sub_u16(bits, 1) < 1023 {
+    if bits.wrapping_sub(1) < 1023 {
         decoded_code(half_to_channel(bits))
     } else {
         plain_half_code(bits)
@@ -73,28 +86,21 @@ pub fn half_code(bits: u16) -> u16
 }
 
 // A single: 1, 8 and 23 bits.
-pub fn single_to_channel(bits: u32) -> Decoded
+pub fn single_to_channel(bits: u32) -> Result<Channel, Refusal>
     ensures answer { result ≡ channel_of_value (single_value bits) }
     ensures told { decoded_told result ≡ decoded_told (channel_of_value (single_value bits)) }
 {
-    float_to_channel(
-        8388608,
-        255,
-        149,
-        bits >> 31,
-        ((bits >> 23) % 256) as u8,
-        bits % 8388608,
-    )
+    SINGLE.to_channel(bits >> 31, ((bits >> 23) % 256) as u8, bits % 8388608)
 }
 
 // A byte of an RGBE pixel beside the pixel's exponent byte.
-#[tactic(auto, unfolding(crate::specs::Sources::rgbe_value, crate::specs::Sources::channel_of_value, crate::specs::Storing::unit))]
-pub fn rgbe_to_channel(byte: u8, exponent: u8) -> Decoded
+#[tactic(auto, using(crate::proofs::Channels::black), unfolding(crate::specs::Sources::rgbe_value, crate::specs::Sources::channel_of_value, crate::specs::Storing::unit))]
+pub fn rgbe_to_channel(byte: u8, exponent: u8) -> Result<Channel, Refusal>
     ensures answer { result ≡ channel_of_value (rgbe_value byte exponent) }
     ensures told { decoded_told result ≡ decoded_told (channel_of_value (rgbe_value byte exponent)) }
 {
     if exponent == 0 {
-        return Decoded::Holds(Channel::Black);
+        return Ok(Channel::Black);
     }
     whole_to_channel(2 * (byte as u32) + 1, exponent, 137)
 }

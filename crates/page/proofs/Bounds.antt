@@ -1,31 +1,23 @@
 -- Demand 3 of a page, and the promises of the two calls. Assumes nothing.
 use Prim.Native.Nat.{ℕ}
-use mathlib.Core.Path.{◌≡◌, refl, sym, subst}
+use mathlib.Core.Path.{◌≡◌, refl}
 use mathlib.Core.List.{List, [], ◌∷◌, ◌++◌, flat_map}
 use mathlib.Core.Logic.{inl, inr}
 use lib.ListN.{length}
 use Rattle.number.specs.declared.channel.Pixel.{Pixel}
 use Rattle.number.proofs.Laws.{Every}
-use Rattle.refusal.specs.declared.Refusal.{Refusal}
-use Rattle.refusal.specs.declared.Verdict.{Verdict}
-use Rattle.refusal.specs.declared.Verdict.TheVariants.{Accepted, Refused}
-use Rattle.refusal.specs.Verdicts.{report_of}
-use Rattle.refusal.proofs.Laws.{also_with}
 use Rattle.word.specs.Words.{pixels}
 use Rattle.strip.specs.Checks.{header_fields, check_strip}
-use Rattle.refusal.specs.Output.{onto, after}
+use Rattle.refusal.specs.Output.{onto}
 use Rattle.strip.specs.Reading.{strip_pixels}
-use Rattle.average.specs.declared.average.Average.TheVariants.{Present}
 use Rattle.average.specs.declared.tally.Tally.{Tally}
-use Rattle.average.specs.Averages.{stored_average, average_of}
+use Rattle.average.specs.Averages.{stored_average, average_of, ◌stored_as◌}
 use Rattle.light.specs.Light.{check_light}
 use Rattle.tone.specs.declared.tone.Tone.{Tone}
 use Rattle.tone.specs.Levels.{IsTone}
 use Rattle.luminance.specs.Pixels.{IsPixel}
 use Rattle.tone.proofs.Laws.{level_bound}
-use Rattle.page.specs.declared.tally.TallyOrRefusal.{TallyOrRefusal}
-use Rattle.page.specs.declared.tally.TallyOrRefusal.TheVariants.{Refuses}
-use Rattle.page.specs.Tallying.{strip_luminances, strip_tally, tally_steps, tally_under, tally_told, tally_strip}
+use Rattle.page.specs.Tallying.{strip_luminances, strip_tally, tally_steps, tally_under, tally_strip}
 use Rattle.body.specs.Levels.{levels_under}
 use Rattle.body.proofs.Laws.{stored_luminance, lit_luminance, lit_count_law, every_luminance}
 use Rattle.page.specs.Checks.{check_tally}
@@ -34,6 +26,9 @@ use Rattle.page.specs.Claims.{MeanHalf, EachThree, LitBound, LevelHalf, DemandTh
 use Rattle.average.proofs.Laws.{present, extremes_hold, mean_bound}
 use Rattle.page.proofs.Checks.{tally_refused, tally_checked, tally_whole, tally_lit, map_tally}
 use Rattle.page.proofs.Strips.{strip_valid, strip_tone}
+use Rattle.std.specs.Prelude.{Err, Ok, Some}
+use Rattle.refusal.specs.Verdicts.{Verdict, accepted}
+use Rattle.refusal.specs.declared.Fault.{Fault}
 
 -- ---- the levels of a list of pixels, with anything behind them
 
@@ -55,9 +50,9 @@ module _ (t : Tone) (tone : IsTone t) where
 
 -- ---- an accepted strip: it has a lit pixel
 
-module _ (s : List ℕ) (ok : check_tally s ≡ Accepted) where
+module _ (s : List ℕ) (ok : check_tally s ≡ accepted) where
   -- so that it has an average
-  strip_present : average_of (strip_tally s).count (strip_tally s).sum ≡ Present (tally_steps (strip_tally s)) (stored_average (tally_steps (strip_tally s)))
+  strip_present : average_of (strip_tally s).count (strip_tally s).sum ≡ Some (tally_steps (strip_tally s) stored_as stored_average (tally_steps (strip_tally s)))
   strip_present = present _ _ (rw (lit_count_law (strip_pixels s)) (tally_lit s ok))
 
   mean_half : MeanHalf (strip_pixels s) (tally_steps (strip_tally s))
@@ -75,12 +70,12 @@ module _ (s : List ℕ) (ok : check_tally s ≡ Accepted) where
 -- ---- what the calls promise
 
 -- a tally of so many pixels, in their light
-pub tallied : (s : List ℕ) → check_strip s ≡ Accepted → (t : Tally) (n : ℕ) → t ≡ strip_tally s → n ≡ pixels (header_fields s)
+pub tallied : (s : List ℕ) → check_strip s ≡ accepted → (t : Tally) (n : ℕ) → t ≡ strip_tally s → n ≡ pixels (header_fields s)
     → tally_under (check_light t.count n) t ≡ tally_strip s
 unfolding tally_strip
 tallied s e t n f g = rw (tally_checked s e, f, g, lit_count_law (strip_pixels s))
 
-pub refused : (s : List ℕ) {r : Refusal} {i : ℕ} → check_strip s ≡ Refused r i → Refuses r i ≡ tally_strip s
+pub refused : (s : List ℕ) {f : Fault} → check_strip s ≡ Err f → Err f ≡ tally_strip s
 unfolding tally_strip
 refused s e = rw (tally_refused s e)
 
@@ -89,7 +84,7 @@ unfolding tally_strip
 tally_bound s = by (check_tally s) refl
   where
     by : (v : Verdict) → check_tally s ≡ v → TallyPromise s (tally_under v (strip_tally s))
-    by Accepted e =
+    by (Ok u) e =
         let count = lit_count_law (strip_pixels s) in
         record {
           lit = tally_lit s e;
@@ -98,26 +93,10 @@ tally_bound s = by (check_tally s) refl
           mean = mean_half s e;
           extremes = record { count = count; extremes = extremes_hold (strip_luminances s) };
         }
-    by (Refused r i) e = tt
+    by (Err f) e = tt
 
--- an answer by a rule that promises so much of a strip
-pub bounded : (s : List ℕ) {rule answer : TallyOrRefusal} → TallyPromise s rule → answer ≡ rule
-    → (answer ≡ rule) × ((tally_told answer ≡ tally_told rule) × TallyPromise s answer)
-bounded s p e = also_with tally_told e (subst (TallyPromise s) (sym e) p)
-
-pub map_bound : (s output : List ℕ) → check_tally s ≡ Accepted → MapPromise s Accepted (onto (strip_levels s) output)
+pub map_bound : (s output : List ℕ) → check_tally s ≡ accepted → MapPromise s accepted (onto (strip_levels s) output)
 map_bound s output e = (tally_lit s e, level_half s e output)
-
--- what a call leaves in the output where a rule decides: these levels, of which so much is promised of a strip
-module _ (s levels old : List ℕ) (rule : Verdict) where
-  abbrev Mapped : Verdict → (new : List ℕ) → Type 0
-  Mapped v new = (v ≡ rule) × ((report_of v ≡ report_of rule) × ((new ≡ after v levels old) × MapPromise s v new))
-
-  pub left_alone : {v : Verdict} {r : Refusal} {i : ℕ} → v ≡ rule → v ≡ Refused r i → Mapped v old
-  left_alone e f = also_with report_of e (rw f, rw f tt)
-
-  pub filled : {new : List ℕ} → Accepted ≡ rule → new ≡ onto levels old → MapPromise s Accepted (onto levels old) → Mapped Accepted new
-  filled e f p = also_with report_of e (f, rw f p)
 
 -- ---- both together
 

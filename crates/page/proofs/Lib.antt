@@ -4,3 +4,4 @@ pub mod Checks
 pub mod Handed
 pub mod Strips
 pub mod Bounds
+pub mod Rules

@@ -6,7 +6,6 @@ use native.Mathlib.Omega.{arith}
 use lib.ListN.{length, get_or}
 use Rattle.number.specs.Channels.{Coded}
 use Rattle.number.proofs.Laws.{Every}
-use Rattle.refusal.specs.declared.Verdict.TheVariants.{Accepted}
 use Rattle.refusal.specs.Output.{onto}
 use Rattle.refusal.proofs.Laws.{and_passed}
 use Rattle.word.specs.Fields.{low16, decode_word}
@@ -36,9 +35,10 @@ use Rattle.light.proofs.Laws.{counted_enough}
 use Rattle.page.specs.Checks.{strip_light}
 use Rattle.page.specs.Tallying.{strip_luminances, strip_tally}
 use Rattle.page.specs.Mapping.{tone_under, strip_levels}
+use Rattle.refusal.specs.Verdicts.{accepted}
 
 -- the lower halves of accepted words are channels
-codes : (start k : ℕ) (ws : List ℕ) → first_refusal (placed decode_word start k ws) ≡ Accepted
+codes : (start k : ℕ) (ws : List ℕ) → first_refusal (placed decode_word start k ws) ≡ accepted
     → (i : ℕ) → i < length ws → Coded (low16 (get_or ws i 0)) (word_channel (get_or ws i 0))
 codes start k [] e i h = absurd (omega arith)
 codes start k (w ∷ ws) e zero h =

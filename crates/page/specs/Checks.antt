@@ -1,7 +1,6 @@
 -- The checks of the two calls over a page. Assumes nothing.
 use Rattle.std.specs.Prelude.{ℕ, List}
-use Rattle.refusal.specs.declared.Verdict.{Verdict}
-use Rattle.refusal.specs.Verdicts.{and_then}
+use Rattle.refusal.specs.Verdicts.{Verdict, and_then}
 use Rattle.word.specs.Words.{pixels}
 use Rattle.strip.specs.Checks.{header_fields, check_strip, check_output}
 use Rattle.strip.specs.Reading.{strip_pixels}

@@ -9,25 +9,18 @@ use std::io::Read;
 fn main(rt: HostRuntime) {
     let mut input = [0u8; 65537];
     let size = io::read_full(0, &mut input);
-    if size < 65537 {
-        let mut more = [0u8; 1];
-        let mut stdin = rt.stdin();
-        let is_ended = matches!(stdin.read(&mut more), Ok(0));
-        if !is_ended {
-            io::write_all(2, b"picture: the input was not read to its end\n");
-            return;
-        }
+    let is_cut = size < 65537 && !matches!(rt.stdin().read(&mut [0]), Ok(0));
+    if is_cut {
+        io::write_all(2, b"picture: the input was not read to its end\n");
+        return;
     }
-    let mut words: [u32; 16384] = [0; 16384];
+    let mut words = [0u32; 16384];
     let mut text = [0u8; 50];
     let mut samples = [0u8; 16380];
     let answer = answer_to(&input[..size], &mut words, &mut text, &mut samples);
-    let front = answer.text;
-    let count = answer.samples;
-    if io::write_all(1, &text[..front]) {
-        if io::write_all(1, &samples[..count]) {
-            return;
-        }
+    let is_written = io::write_all(1, &text[..answer.text])
+        && io::write_all(1, &samples[..answer.samples]);
+    if !is_written {
+        io::write_all(2, b"picture: the output was not written\n");
     }
-    io::write_all(2, b"picture: the output was not written\n");
 }

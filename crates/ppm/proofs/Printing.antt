@@ -9,10 +9,8 @@ use lib.Dec.{eqb}
 use lib.ListN.{length, take, drop, length-append}
 use lib.Seq.{take_at, take-append_seam}
 use Rattle.io.specs.Counts.{IsPrefixLen}
-use Rattle.refusal.specs.declared.Refusal.{Refusal}
 use Rattle.refusal.specs.declared.Refusal.TheVariants.{WrongLength}
-use Rattle.refusal.specs.declared.Verdict.{Verdict}
-use Rattle.refusal.specs.declared.Verdict.TheVariants.{Accepted, Refused}
+use Rattle.refusal.specs.Refusals.{outcome_of}
 use Rattle.refusal.specs.Verdicts.{report_of, and_then}
 use Rattle.word.specs.Words.{pixels}
 use Rattle.strip.specs.Checks.{header_fields}
@@ -26,6 +24,10 @@ use Rattle.ppm.specs.Words.{little_endian, check_bytes}
 use Rattle.ppm.specs.Answers.{Printed, text_alone, front_of, printed_refusal, picture_of, printed_under, printed_of}
 use Rattle.ppm.specs.Answers.{check_input, printed_for, bytes_of, counts_of}
 use Rattle.ppm.proofs.Endian.{length_words, count_uneven, count_even, uneven, too_many, words_fit}
+use Rattle.std.specs.Prelude.{Err}
+use Rattle.refusal.specs.Faults.{◌found_at◌}
+use Rattle.refusal.specs.Verdicts.{Verdict, accepted}
+use Rattle.refusal.specs.declared.Fault.{Fault}
 
 -- what an answer leaves in the two outputs t and u, which held t₀ and u₀
 abbrev Laid : Printed → Answer → (t₀ t u₀ u : List ℕ) → Type 0
@@ -47,14 +49,14 @@ module _ (s t₀ u₀ : List ℕ) (short : length s ≤ 16384) {v : Verdict} (to
   checked : v ≡ check_tally s
   checked = told ∙ room_enough s 16380 (λ long. omega (arith, short, long))
 
-  pub laid_refused : {r : Refusal} {i n : ℕ} {t u : List ℕ} → v ≡ Refused r i → n ≡ length (printed_refusal (report_of v)).text
-      → t ≡ onto (printed_refusal (report_of v)).text t₀ → u ≡ after v (strip_levels s) u₀ → Laid (printed_of s) (counts n 0) t₀ t u₀ u
-  laid_refused {n = n} {t = t} {u = u} e count text samples =
-      let p : printed_refusal (report_of v) ≡ printed_of s = rw (← checked, e) in
-      subst (λ q. Laid q (counts n 0) t₀ t u₀ u) p (laid_alone (printed_refusal (report_of v)).text t₀ u₀ count text (samples ∙ rw e))
+  pub laid_refused : {f : Fault} {r : Answer} {t u : List ℕ} → v ≡ Err f → r ≡ counts_of (printed_refusal (outcome_of f.refusal f.index))
+      → t ≡ onto (printed_refusal (outcome_of f.refusal f.index)).text t₀ → u ≡ after v (strip_levels s) u₀ → Laid (printed_of s) r t₀ t u₀ u
+  laid_refused {f} {r} {t} {u} e counts text samples =
+      let p : printed_refusal (outcome_of f.refusal f.index) ≡ printed_of s = rw (← checked, e) in
+      subst (λ q. Laid q r t₀ t u₀ u) p (counts, (text, samples ∙ rw e))
 
   module _ {w h : ℕ} (width : w ≡ (header_fields s).width) (height : h ≡ (header_fields s).height) where
-    pub laid_picture : {m n : ℕ} {t u : List ℕ} → v ≡ Accepted → m ≡ length (front_of w h) → t ≡ onto (front_of w h) t₀
+    pub laid_picture : {m n : ℕ} {t u : List ℕ} → v ≡ accepted → m ≡ length (front_of w h) → t ≡ onto (front_of w h) t₀
         → n ≡ 3 * pixels (header_fields s) → u ≡ after v (strip_levels s) u₀ → Laid (printed_of s) (counts m n) t₀ t u₀ u
     laid_picture {m} {n} {t} {u} e count text long samples =
         let ok = sym checked ∙ e in
@@ -83,7 +85,7 @@ module _ (bs : List ℕ) where
     unfolding printed_for
     printed_short = rw (le-ltb _ _ short)
 
-    input_uneven : (length bs % 4 ≡ 0 → ⊥) → check_input bs ≡ Refused WrongLength 0
+    input_uneven : (length bs % 4 ≡ 0 → ⊥) → check_input bs ≡ Err (WrongLength found_at 0)
     unfolding check_input and_then
     input_uneven h = rw (count_uneven bs h)
 
@@ -91,8 +93,8 @@ module _ (bs : List ℕ) where
     unfolding check_input and_then
     input_even h = rw (count_even bs h)
 
-    pub printed_uneven : {r : Refusal} {i : ℕ} → v ≡ Refused r i → printed_refusal (report_of v) ≡ printed_for bs
-    printed_uneven refused = go (eqb (length bs % 4) 0) refl ∙ printed_short
+    printed_told : {f : Fault} → v ≡ Err f → printed_refusal (report_of v) ≡ printed_for bs
+    printed_told refused = go (eqb (length bs % 4) 0) refl ∙ printed_short
       where
         go : (b : Bool) → eqb (length bs % 4) 0 ≡ b → printed_refusal (report_of v) ≡ printed_under (check_input bs) (little_endian bs)
         go true e =
@@ -101,7 +103,10 @@ module _ (bs : List ℕ) where
             absurd (omega (arith, clash))
         go false e = let odd = eqb-false _ _ e in rw (told, uneven bs 16384 odd, input_uneven odd)
 
-    module _ (ok : v ≡ Accepted) where
+    pub printed_uneven : {f : Fault} → v ≡ Err f → printed_refusal (outcome_of f.refusal f.index) ≡ printed_for bs
+    printed_uneven refused = rw refused at (printed_told refused)
+
+    module _ (ok : v ≡ accepted) where
       pub printed_strip : printed_of (little_endian bs) ≡ printed_for bs
       printed_strip = go (eqb (length bs % 4) 0) refl ∙ printed_short
         where

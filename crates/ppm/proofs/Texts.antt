@@ -7,7 +7,10 @@ use native.Mathlib.Nat.{pow-suc, one-le-pow, pow-le-pow_right}
 use native.Mathlib.Omega.{arith}
 use borrow.Author.Tests.{lt-ltb, le-ltb, leb-true, leb-false}
 use lib.Dec.{ltb, leb}
-use lib.ListN.{length, length-append}
+use lib.ListN.{length, take, length-append}
+use Rattle.std.proofs.Common.{append_assoc}
+use Rattle.std.proofs.Math.Seq.{sets-eq}
+use borrow.Rule.Slice.PartMut.{post_of, Post-is}
 use lib.Seq.{sets}
 use Rattle.io.specs.Digits.{hex_digit_ascii, last_digits, IsDigitCount}
 use Rattle.refusal.specs.Output.{onto}
@@ -25,6 +28,10 @@ then t i ls bs p q = (
   q.0 ∙ rw (p.0, p.1) (sets_append t i ls bs),
   omega (arith, p.1, q.1, length-append ls bs),
 )
+
+-- what is copied into the part of t from i on is put there
+pub stored : (i : ℕ) (bs t ys : List ℕ) → i + length bs ≤ length t → ys ≡ bs → take i t ++ (ys ++ post_of i (i + length bs - i) t) ≡ sets t i bs
+stored i bs t ys fits e = rw (e, Post-is i (i + length bs) t (omega arith), sets-eq bs t i fits, append_assoc)
 
 -- ---- decimal digits
 

@@ -1,8 +1,6 @@
 -- What the picture program prints. Assumes nothing.
 use Rattle.std.specs.Prelude.{ℕ, cond, List, [], ◌++◌, length, ltb}
 use Rattle.refusal.specs.declared.Outcome.{Outcome}
-use Rattle.refusal.specs.declared.Verdict.{Verdict}
-use Rattle.refusal.specs.declared.Verdict.TheVariants.{Accepted, Refused}
 use Rattle.refusal.specs.Refusals.{outcome_of}
 use Rattle.refusal.specs.Verdicts.{and_then}
 use Rattle.strip.specs.Checks.{header_fields}
@@ -11,6 +9,8 @@ use Rattle.page.specs.Mapping.{strip_levels}
 use Rattle.ppm.specs.declared.answer.Answer.{Answer}
 use Rattle.ppm.specs.Text.{ascii, two_numbers}
 use Rattle.ppm.specs.Words.{little_endian, check_count}
+use Rattle.std.specs.Prelude.{Err, Ok}
+use Rattle.refusal.specs.Verdicts.{Verdict}
 
 -- "P6, line feed, width, space, height, line feed, 255, line feed"
 abbrev pub front_of : (width height : ℕ) → List ℕ
@@ -36,8 +36,8 @@ abbrev pub picture_of : List ℕ → Printed
 picture_of s = record { text = front_of (header_fields s).width (header_fields s).height; samples = strip_levels s }
 
 abbrev pub printed_under : Verdict → List ℕ → Printed
-printed_under Accepted s = picture_of s
-printed_under (Refused r i) s = printed_refusal (outcome_of r i)
+printed_under (Ok u) s = picture_of s
+printed_under (Err f) s = printed_refusal (outcome_of f.refusal f.index)
 
 -- the answer to a strip: there is room for the samples of every page that the input can hold, so it is checked as for its tally
 abbrev pub printed_of : List ℕ → Printed

@@ -1,7 +1,7 @@
 // The answer of the picture program.
 ghost use Rattle.std.specs.Prelude.{◌≤◌, ◌≡◌, ◌++◌, length, take};
 ghost use Rattle.io.specs.Counts.{IsPrefixLen};
-ghost use Rattle.refusal.specs.Verdicts.{report_of};
+ghost use Rattle.refusal.specs.Refusals.{outcome_of};
 ghost use Rattle.refusal.specs.Output.{onto, after};
 ghost use Rattle.ppm.specs.Words.{little_endian, check_bytes};
 ghost use Rattle.ppm.specs.Answers.{printed_refusal, printed_of, printed_for, bytes_of, counts_of};
@@ -10,23 +10,27 @@ use crate::put::put;
 use crate::text::{front, refused};
 use crate::words::store_words;
 use page::map::map;
-use refusal::{Verdict, report};
+use refusal::{Fault, Outcome};
 use word::header::{height_in, pixel_count, width_in};
 
-// An answer in two lent outputs, a text and the samples behind it: how many bytes of each are its.
+// An answer in two lent outputs, a text and the samples behind it: how many bytes of each are its. Memory is fixed: the
+// caller lends the two, and has them back; slices of them would keep both lent.
 #[derive(Clone, Copy)]
 pub struct Answer {
     pub text: usize,
     pub samples: usize,
 }
 
-// The line of a refused verdict.
-fn refused_verdict(verdict: Verdict, text: &mut [u8; 50]) -> usize
-    ensures count { result ≡ length (printed_refusal (report_of verdict)).text }
-    ensures content { text.new ≡ onto (printed_refusal (report_of verdict)).text text.old }
+// The answer to a refusal, its line alone.
+fn refusal_line(fault: Fault, text: &mut [u8; 50]) -> Answer
+    ensures counts { result ≡ counts_of (printed_refusal (outcome_of fault.refusal fault.index)) }
+    ensures text { text.new ≡ onto (printed_refusal (outcome_of fault.refusal fault.index)).text text.old }
 {
-    let told = report(verdict);
-    refused(told.number, told.place as u64, text)
+    let told = Outcome::from(fault);
+    Answer {
+        text: refused(told.number, told.place as u64, text),
+        samples: 0,
+    }
 }
 
 // The answer to a strip.
@@ -36,13 +40,9 @@ fn picture(strip: &[u32], text: &mut [u8; 50], samples: &mut [u8; 16380]) -> Ans
     ensures text { text.new ≡ onto (printed_of strip.now).text text.old }
     ensures samples { samples.new ≡ onto (printed_of strip.now).samples samples.old }
 {
-    let verdict = map(strip, samples);
-    let Verdict::Accepted = verdict else {
-        return Answer {
-            text: refused_verdict(verdict, text),
-            samples: 0,
-        };
-    };
+    if let Err(fault) = map(strip, samples) {
+        return refusal_line(fault, text);
+    }
     let width = width_in(strip[0]) as u64;
     let height = height_in(strip[0]) as u64;
     let count = 3 * pixel_count(strip[0]);
@@ -73,14 +73,9 @@ pub fn answer_to(
             samples: 0,
         };
     }
-    let verdict = store_words(input, words);
-    let Verdict::Accepted = verdict else {
-        return Answer {
-            text: refused_verdict(verdict, text),
-            samples: 0,
-        };
-    };
+    if let Err(fault) = store_words(input, words) {
+        return refusal_line(fault, text);
+    }
     let count = input.len() / 4;
-    let row: &[u32] = words;
-    picture(&row[..count], text, samples)
+    picture(&words[..count], text, samples)
 }

@@ -4,6 +4,7 @@ ghost use Rattle.std.proofs.lemmas.List.Edits.{sets};
 ghost use Rattle.refusal.specs.Output.{onto};
 ghost use Rattle.ppm.specs.Text.{decimal, two_numbers};
 
+#[tactic(auto, using(crate::proofs::Texts::stored))]
 pub fn put(text: &[u8], at: usize, output: &mut [u8]) -> usize
     requires { at + length text.now ≤ length output.old }
     ensures content { output.new ≡ sets output.old at text.now }
@@ -15,6 +16,7 @@ pub fn put(text: &[u8], at: usize, output: &mut [u8]) -> usize
 }
 
 // A number in decimal digits.
+#[tactic(auto, using(crate::proofs::Texts::in_decimal, crate::proofs::Texts::length_decimal))]
 pub fn put_decimal(n: u64, at: usize, output: &mut [u8]) -> usize
     requires { at + 20 ≤ length output.old }
     ensures content { output.new ≡ sets output.old at (decimal n) }
@@ -26,6 +28,8 @@ pub fn put_decimal(n: u64, at: usize, output: &mut [u8]) -> usize
 }
 
 // Two numbers with a space between them, a text before and a text behind, from the output's front on.
+// No `write!`: what it promises holds where it succeeds, and nothing promises that it does, in an output that has the room.
+#[tactic(auto, using(crate::proofs::Texts::length_decimal))]
 pub fn put_numbers(
     before: &[u8],
     first: u64,

@@ -6,13 +6,13 @@ use mathlib.Core.List.{List}
 use borrow.Author.Tests.{ne_eqb}
 use lib.ListN.{length}
 use Rattle.strip.specs.Checks.{check_strip}
-use Rattle.reader.specs.declared.Step.TheVariants.{Pixel, PageOver}
 use Rattle.reader.specs.Steps.{pixel_begins, pixel_from, step_under, step_at, position_after}
+use Rattle.std.specs.Prelude.{None, Ok, Some}
 
 module _ (s : List ℕ) (p : ℕ) where
   -- where a pixel begins
   module _ (begins : pixel_begins (length s) p ≡ true) where
-    pub step_pixel : step_at s p ≡ Pixel (pixel_from s p)
+    pub step_pixel : step_at s p ≡ Ok (Some (pixel_from s p))
     unfolding step_at
     step_pixel = rw begins
 
@@ -26,7 +26,7 @@ module _ (s : List ℕ) (p : ℕ) where
   step_checked e = rw e
 
   module _ (none : pixel_begins (length s) p ≡ false) where
-    pub step_over : (p ≡ 0 → ⊥) → step_at s p ≡ PageOver
+    pub step_over : (p ≡ 0 → ⊥) → step_at s p ≡ Ok None
     unfolding step_at
     step_over some = rw (none, ne_eqb _ _ some)
 

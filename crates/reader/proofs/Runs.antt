@@ -10,8 +10,6 @@ use lib.Seq.{take-nil, get_or-take, get_or-drop}
 use lib.Dec.{ltb}
 use denote.Ref.{Bor}
 use Rattle.number.specs.declared.channel.Pixel.{Pixel as PixelType}
-use Rattle.refusal.specs.declared.Verdict.{Verdict}
-use Rattle.refusal.specs.declared.Verdict.TheVariants.{Accepted, Refused}
 use Rattle.word.specs.declared.header.Header.{Header}
 use Rattle.word.specs.Words.{pixels, body_start}
 use Rattle.word.specs.Pixels.{word_pixels}
@@ -23,19 +21,19 @@ use Rattle.strip.specs.Reading.{strip_pixels}
 use Rattle.strip.proofs.Limits.{Whole, whole_strip}
 use Rattle.strip.proofs.Bodies.{pixels_in}
 use Rattle.strip.proofs.RoundTrip.{count_pixels}
-use Rattle.reader.specs.declared.Step.{Step}
-use Rattle.reader.specs.declared.Step.TheVariants.{Pixel, PageOver}
 use Rattle.reader.specs.declared.PageReader.{PageReader}
-use Rattle.reader.specs.Steps.{start_under, pixel_begins, pixel_from, step_under, step_at, position_after}
+use Rattle.reader.specs.Steps.{Step, pixel_answer, start_under, pixel_begins, pixel_from, step_under, step_at, position_after}
 use Rattle.reader.specs.Claims.{answers_of, answers_under, EveryRun}
 use Rattle.reader.proofs.Cases.{step_checked, step_pixel, after_pixel, step_over, after_stays}
+use Rattle.std.specs.Prelude.{Err, None, Ok}
+use Rattle.refusal.specs.Verdicts.{Verdict, accepted}
 
 begins_at : (h : Header) (k n : ℕ) → let p = body_start h + 3 * k in pixel_begins n p ≡ ltb (p + 3) n
 begins_at h k n = rw (lt-ltb 0 (body_start h + 3 * k) (omega (arith, behind_head h)))
 
 -- the first pixel is the first answer
-first_answer : (n : ℕ) (p : PixelType) (ps : List PixelType) → answers_under Accepted (suc n) (p ∷ ps) ≡ Pixel p ∷ answers_under Accepted n ps
-first_answer n p ps = ap (λ m. Pixel p ∷ take n (map Pixel ps) ++ replicate m PageOver) (suc-sub-suc n (length ps))
+first_answer : (n : ℕ) (p : PixelType) (ps : List PixelType) → answers_under accepted (suc n) (p ∷ ps) ≡ pixel_answer p ∷ answers_under accepted n ps
+first_answer n p ps = ap (λ m. pixel_answer p ∷ take n (map pixel_answer ps) ++ replicate m (Ok None)) (suc-sub-suc n (length ps))
 
 module _ (strip : Bor (List ℕ)) where
   abbrev s : List ℕ
@@ -75,7 +73,7 @@ module _ (strip : Bor (List ℕ)) where
         rw (e₁, e₂, word_in (3 * k) (omega arith), word_in (3 * k + 1) (omega arith), word_in (3 * k + 2) (omega arith))
 
     -- before pixel k, the first of m that are left
-    answers_from : (m k n : ℕ) → k + m ≡ count → answers_of n (reader (start + 3 * k)) ≡ answers_under Accepted n (drop k (word_pixels ws))
+    answers_from : (m k n : ℕ) → k + m ≡ count → answers_of n (reader (start + 3 * k)) ≡ answers_under accepted n (drop k (word_pixels ws))
     answers_from zero k n e =
         let over = begins_at (header_fields s) k (length s) ∙ le-ltb (start + 3 * k + 3) (length s) (omega (arith, ok.head.long)) in
         let none = drop_of_length-le (word_pixels ws) {i = k} (rw (length_word_pixels ws, thirds) (omega arith)) in
@@ -92,11 +90,11 @@ module _ (strip : Bor (List ℕ)) where
   -- ---- a reader of any strip
 
   answers_under_law : (v : Verdict) → check_strip s ≡ v → (n : ℕ) → answers_of n (reader (start_under v s)) ≡ answers_under v n (strip_pixels s)
-  answers_under_law Accepted e n =
+  answers_under_law (Ok u) e n =
       let ok = whole_strip s e in
       let first : start ≡ start + 3 * 0 = omega arith in
       ap (λ p. answers_of n (reader p)) first ∙ answers_from ok count 0 n (omega arith) ∙ rw (pixels_in s ok.channels)
-  answers_under_law (Refused r i) e n = same_answers 0 (step_checked s 0 refl ∙ ap step_under e) (after_stays s 0 refl) n
+  answers_under_law (Err f) e n = same_answers 0 (step_checked s 0 refl ∙ ap step_under e) (after_stays s 0 refl) n
 
 pub every_run : EveryRun
 every_run strip n = answers_under_law strip (check_strip strip.now) refl n

@@ -1,5 +1,5 @@
-// The page reader: it keeps a lent strip and walks it pixel by pixel. The functions over the struct are thin; the work is done on a plain
-// slice and a position, in `steps`.
+// The page reader: it keeps a lent strip and walks it pixel by pixel. Its methods are thin; the work is done on a plain slice and a position,
+// in `steps`.
 #![tactic(auto)]
 
 mod steps;
@@ -10,59 +10,54 @@ ghost use Rattle.reader.specs.Claims.{AnswersFor};
 
 use crate::steps::{position_after, start_of, step_at, steps_before};
 use number::channel::Pixel;
-use refusal::Refusal;
+use refusal::Fault;
 
-// What a step answers: the next pixel, that the page is over, or the strip's refusal with the index where it was found, of which
-// `outcome_of` tells number and place.
-#[derive(Clone, Copy)]
-pub enum Step {
-    Pixel(Pixel),
-    PageOver,
-    Refuses(Refusal, usize),
-}
-
-// A strip, and the index of the next pixel's red word; 0, where no pixel begins, over a refused strip. Only the calls below make one.
+// A strip, and the index of the next pixel's red word; 0, where no pixel begins, over a refused strip. Only `open` makes one.
+// A number and no `Option`: the reader is a strip and a position, as its rule says.
 #[derive(Clone, Copy)]
 pub struct PageReader<'a> {
     strip: &'a [u32],
     position: usize,
 }
 
-// A reader before the strip's first pixel. It checks the strip, once; any run of steps from here answers as the list of the pixels.
-pub fn open<'a>(strip: &'a [u32]) -> PageReader<'a>
-    ensures { (result ≡ opened_of strip.entry) × AnswersFor strip.now result }
-{
-    PageReader {
-        strip,
-        position: start_of(strip),
+impl<'a> PageReader<'a> {
+    // A reader before the strip's first pixel. It checks the strip, once; any run of steps from here answers as the list of the pixels.
+    #[tactic(auto, using(crate::proofs::Runs::every_run))]
+    pub fn open(strip: &'a [u32]) -> PageReader<'a>
+        ensures { (result ≡ opened_of strip.entry) × AnswersFor strip.now result }
+    {
+        PageReader {
+            strip,
+            position: start_of(strip),
+        }
     }
-}
 
-// One step: the answer, and the reader moved on.
-pub fn next<'s, 'a>(reader: &'s mut PageReader<'a>) -> Step
-    ensures { (result ≡ step_of reader.old) × (step_told result ≡ step_told (step_of reader.old)) × (reader.new ≡ moved_of reader.old) }
-{
-    let strip = reader.strip;
-    let position = reader.position;
-    reader.position = position_after(strip, position);
-    step_at(strip, position)
+    // One step: the next pixel, or none where the page is over, or the strip's refusal; and the reader moved on.
+    // No `Iterator`: a refused strip answers its refusal at every step.
+    pub fn next(&mut self) -> Result<Option<Pixel>, Fault>
+        ensures { (result ≡ step_of self.old) × (step_told result ≡ step_told (step_of self.old)) × (self.new ≡ moved_of self.old) }
+    {
+        let strip = self.strip;
+        let position = self.position;
+        self.position = position_after(strip, position);
+        step_at(strip, position)
+    }
 }
 
 // The answer after so many steps: a reader is opened, takes them, and takes one more.
-fn step_after(strip: &[u32], taken: u64) -> Step
+fn step_after(strip: &[u32], taken: u64) -> Result<Option<Pixel>, Fault>
     ensures { result ≡ step_number strip.now taken }
 {
-    let mut reader = open(strip);
-    let mut k: u64 = 0;
-    while k < taken {
-        next(&mut reader);
-        k += 1;
+    let mut reader = PageReader::open(strip);
+    for _ in 0..taken {
+        let _ = reader.next();
     }
-    next(&mut reader)
+    reader.next()
 }
 
 // The answer of step n of a strip's reader, counted from 0.
-pub fn step_number(strip: &[u32], n: u64) -> Step
+#[tactic(auto, using(crate::proofs::Numbers::same_number))]
+pub fn step_number(strip: &[u32], n: u64) -> Result<Option<Pixel>, Fault>
     ensures answer { result ≡ step_number strip.now n }
     ensures told { step_told result ≡ step_told (step_number strip.now n) }
 {

@@ -1,10 +1,10 @@
 // A reader's start and steps, on its strip and its position.
-ghost use Rattle.std.specs.Prelude.{◌≡◌, min};
+ghost use Rattle.std.specs.Prelude.{◌≡◌};
 ghost use Rattle.reader.specs.Steps.{start_of, pixel_begins, step_at, position_after};
 ghost use Rattle.reader.specs.loops.Counts.{steps_before};
 
-use crate::Step;
-use refusal::Verdict;
+use number::channel::Pixel;
+use refusal::Fault;
 use strip::check::check;
 use strip::read::body_start;
 use word::body::pixel_in;
@@ -14,8 +14,8 @@ pub fn start_of(strip: &[u32]) -> usize
     ensures { result ≡ start_of strip.now }
 {
     match check(strip) {
-        Verdict::Accepted => body_start(strip),
-        Verdict::Refused(_, _) => 0,
+        Ok(()) => body_start(strip),
+        Err(_) => 0,
     }
 }
 
@@ -23,25 +23,21 @@ pub fn start_of(strip: &[u32]) -> usize
 fn pixel_begins(length: usize, position: usize) -> bool
     ensures { result ≡ pixel_begins length position }
 {
-    position > 0 && (length > 3 && position < length - 3)
+    position > 0 && position < length.saturating_sub(3)
 }
 
 // The answer at a position.
 #[tactic(auto, unfolding(crate::specs::Steps::step_at))]
-pub fn step_at(strip: &[u32], position: usize) -> Step
+pub fn step_at(strip: &[u32], position: usize) -> Result<Option<Pixel>, Fault>
     ensures { result ≡ step_at strip.now position }
 {
     if pixel_begins(strip.len(), position) {
-        return Step::Pixel(pixel_in(strip[position], strip[position + 1], strip[position + 2]));
+        return Ok(Some(pixel_in(strip[position], strip[position + 1], strip[position + 2])));
     }
     if position == 0 {
-        match check(strip) {
-            Verdict::Accepted => Step::PageOver,
-            Verdict::Refused(refusal, i) => Step::Refuses(refusal, i),
-        }
-    } else {
-        Step::PageOver
+        check(strip)?;
     }
+    Ok(None)
 }
 
 // The position after a step: past the pixel that was told, else the same.
@@ -56,19 +52,12 @@ pub fn position_after(strip: &[u32], position: usize) -> usize
     }
 }
 
-// The lesser of two numbers.
-fn lesser(a: u64, b: u64) -> u64
-    ensures { result ≡ min a b }
-{
-    if a < b { a } else { b }
-}
-
 // As many of n steps as make a difference: none over a refused strip, else at most a third of its words, as a pixel has three.
 pub fn steps_before(strip: &[u32], n: u64) -> u64
     ensures { result ≡ steps_before strip.now n }
 {
-    let Verdict::Accepted = check(strip) else {
+    let Ok(()) = check(strip) else {
         return 0;
     };
-    lesser(n, (strip.len() / 3) as u64)
+    n.min((strip.len() / 3) as u64)
 }

@@ -1,8 +1,5 @@
 -- Laws of a chain of checks, and of the numbers that answers tell. Assumes nothing.
-use Prim.Native.Nat.{ℕ}
-use mathlib.Core.Path.{◌≡◌, refl, sym, ap, ◌∙◌}
-use mathlib.Core.Bool.{Bool, true, false}
-use native.Mathlib.Omega.{arith}
+use Rattle.std.proofs.Common.{ℕ, ◌≡◌, refl, sym, ap, ◌∙◌, Bool, true, false, arith}
 use Rattle.refusal.specs.declared.Refusal.{Refusal}
 use Rattle.refusal.specs.declared.Refusal.TheVariants.{
   BadSize,
@@ -18,48 +15,43 @@ use Rattle.refusal.specs.declared.Refusal.TheVariants.{
   NoSuchRow,
   UnlikeBands,
 }
-use Rattle.refusal.specs.declared.Verdict.{Verdict}
-use Rattle.refusal.specs.declared.Verdict.TheVariants.{Accepted, Refused}
+use Rattle.std.specs.Prelude.{Ok, Err}
+use Rattle.refusal.specs.declared.Fault.{Fault}
 use Rattle.refusal.specs.Refusals.{outcome_of}
-use Rattle.refusal.specs.Verdicts.{require, and_then}
+use Rattle.refusal.specs.Verdicts.{Verdict, accepted, require, and_then}
 
 -- an accepted chain: each check is met
 
-pub require_passed : (b : Bool) (r : Refusal) (i : ℕ) (v : Verdict) → require b r i v ≡ Accepted → (b ≡ true) × (v ≡ Accepted)
+pub require_passed : (b : Bool) (r : Refusal) (i : ℕ) (v : Verdict) → require b r i v ≡ accepted → (b ≡ true) × (v ≡ accepted)
 unfolding require
 require_passed true r i v e = (refl, e)
 require_passed false r i v e = (cc, cc)
 
-pub and_passed : (v w : Verdict) → and_then v w ≡ Accepted → (v ≡ Accepted) × (w ≡ Accepted)
+pub and_passed : (v w : Verdict) → and_then v w ≡ accepted → (v ≡ accepted) × (w ≡ accepted)
 unfolding and_then
-and_passed Accepted w e = (refl, e)
-and_passed (Refused r i) w e = (cc, cc)
+and_passed (Ok u) w e = (refl, e)
+and_passed (Err f) w e = (cc, cc)
 
 -- and back
 
-pub require_met : {b : Bool} (r : Refusal) (i : ℕ) {v : Verdict} → b ≡ true → v ≡ Accepted → require b r i v ≡ Accepted
+pub require_met : {b : Bool} (r : Refusal) (i : ℕ) {v : Verdict} → b ≡ true → v ≡ accepted → require b r i v ≡ accepted
 unfolding require
 require_met r i e f = rw (e, f)
 
-pub and_met : {v w : Verdict} → v ≡ Accepted → w ≡ Accepted → and_then v w ≡ Accepted
+pub and_met : {v w : Verdict} → v ≡ accepted → w ≡ accepted → and_then v w ≡ accepted
 unfolding and_then
 and_met e f = rw (e, f)
 
 -- a refused chain, whatever stands behind it
-pub and_refused : {u v : Verdict} {r : Refusal} {i : ℕ} (w : Verdict) → u ≡ v → u ≡ Refused r i → u ≡ and_then v w
+pub and_refused : {u v : Verdict} {f : Fault} (w : Verdict) → u ≡ v → u ≡ Err f → u ≡ and_then v w
 unfolding and_then
 and_refused w e f = rw (sym e ∙ f) f
 
 -- three chains, one behind another
 pub and_assoc : (u v w : Verdict) → and_then (and_then u v) w ≡ and_then u (and_then v w)
 unfolding and_then
-and_assoc Accepted v w = refl
-and_assoc (Refused r i) v w = refl
-
-pub and_last : (v : Verdict) → and_then v Accepted ≡ v
-unfolding and_then
-and_last Accepted = refl
-and_last (Refused r i) = refl
+and_assoc (Ok u) v w = refl
+and_assoc (Err f) v w = refl
 
 -- two answers that are the same are told alike
 pub also : {A B : Type 0} (f : A → B) {x y : A} → x ≡ y → (x ≡ y) × (f x ≡ f y)

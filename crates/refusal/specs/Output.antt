@@ -1,7 +1,6 @@
 -- What a lent output holds after a call. Assumes nothing.
-use Rattle.std.specs.Prelude.{ℕ, List, ◌++◌, length, drop}
-use Rattle.refusal.specs.declared.Verdict.{Verdict}
-use Rattle.refusal.specs.declared.Verdict.TheVariants.{Accepted, Refused}
+use Rattle.std.specs.Prelude.{ℕ, List, ◌++◌, length, drop, Ok, Err}
+use Rattle.refusal.specs.Verdicts.{Verdict}
 
 -- an output with new content in its front, the old behind
 abbrev pub onto : (front old : List ℕ) → List ℕ
@@ -9,5 +8,5 @@ onto front old = front ++ drop (length front) old
 
 -- an accepted call leaves its answer in the front; of a refused one "Memory keeps its content"
 abbrev pub after : Verdict → (front old : List ℕ) → List ℕ
-after Accepted front old = onto front old
-after (Refused r i) front old = old
+after (Ok u) front old = onto front old
+after (Err f) front old = old

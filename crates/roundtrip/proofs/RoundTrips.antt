@@ -8,11 +8,8 @@ use lib.ListN.{length, length-map}
 use Rattle.number.specs.declared.channel.Channel.{Channel}
 use Rattle.number.specs.Channels.{code_of}
 use Rattle.number.proofs.Laws.{Every, IsChannel, code_channel_law, channel_code, half_valid, single_valid, rgbe_valid}
-use Rattle.refusal.specs.declared.Verdict.TheVariants.{Accepted}
 use Rattle.refusal.proofs.Laws.{and_passed, and_met, require_met}
 use Rattle.word.specs.declared.header.Header.{Header}
-use Rattle.strip.specs.declared.read.HeaderOrRefusal.{HeaderOrRefusal}
-use Rattle.number.specs.declared.channel.Decoded.{Decoded}
 use Rattle.word.specs.Words.{pixels, strip_length, strip_of}
 use Rattle.word.specs.Placing.{first_refusal, decoded_of, channels_of}
 use Rattle.strip.specs.Checks.{header_fields, decoded_body, check_strip}
@@ -50,10 +47,12 @@ use Rattle.frame.proofs.Frames.{Page, page}
 use Rattle.convert.specs.Converting.{check_source, converted}
 use Rattle.roundtrip.specs.Claims.{Yields, ReadsBack, WritesAgain, ConvertsByCodes}
 use Rattle.convert.proofs.Pages.{channel_count_law}
+use Rattle.std.specs.Prelude.{Ok}
+use Rattle.refusal.specs.Verdicts.{accepted}
 
 -- ---- every channel of an accepted source is one
 
-pixels_valid : (i : ℕ) (xs : List ℕ) → first_refusal (rgbe_pixels i xs) ≡ Accepted → Every IsChannel (channels_of (rgbe_pixels i xs))
+pixels_valid : (i : ℕ) (xs : List ℕ) → first_refusal (rgbe_pixels i xs) ≡ accepted → Every IsChannel (channels_of (rgbe_pixels i xs))
 pixels_valid i [] h = tt
 pixels_valid i (r ∷ []) h = tt
 pixels_valid i (r ∷ g ∷ []) h = tt
@@ -67,7 +66,7 @@ pixels_valid i (r ∷ g ∷ b ∷ e ∷ xs) h =
     let blue = rgbe_valid _ b e (holds _ _ q₃.0) in
     (red, (green, (blue, pixels_valid (i + 4) xs q₃.1)))
 
-elements_valid : (f : Format) (xs : List ℕ) → first_refusal (decoded_source f xs) ≡ Accepted → Every IsChannel (channels_of (decoded_source f xs))
+elements_valid : (f : Format) (xs : List ℕ) → first_refusal (decoded_source f xs) ≡ accepted → Every IsChannel (channels_of (decoded_source f xs))
 elements_valid rgbe xs e = pixels_valid 0 xs e
 elements_valid half xs e = channels_valid half_element (λ k b c. half_valid c b) 0 0 xs e
 elements_valid single xs e = channels_valid single_element (λ k b c. single_valid c b) 0 0 xs e
@@ -75,10 +74,10 @@ elements_valid stored xs e = channels_valid stored_element (λ k n c h. (channel
 
 -- ---- an accepted source is a page
 
-module _ (f : Format) (h : Header) (xs : List ℕ) (room : ℕ) (accepted : check_source f h xs room ≡ Accepted) where
-  parts : (check_frame h (per_pixel f) (length xs) room ≡ Accepted) × (first_refusal (decoded_source f xs) ≡ Accepted)
+module _ (f : Format) (h : Header) (xs : List ℕ) (room : ℕ) (ok : check_source f h xs room ≡ accepted) where
+  parts : (check_frame h (per_pixel f) (length xs) room ≡ accepted) × (first_refusal (decoded_source f xs) ≡ accepted)
   unfolding check_source
-  parts = and_passed _ _ accepted
+  parts = and_passed _ _ ok
 
   limits : Page h (per_pixel f) (length xs) room
   limits = page h _ _ _ parts.0
@@ -95,24 +94,24 @@ module _ (f : Format) (h : Header) (xs : List ℕ) (room : ℕ) (accepted : chec
 
 -- ---- what a written page yields
 
-page_yields : (h : Header) (cs : List Channel) → IsPage h cs → Yields (strip_of h cs) h (map Decoded.Holds cs)
+page_yields : (h : Header) (cs : List Channel) → IsPage h cs → Yields (strip_of h cs) h (map Ok cs)
 unfolding check_strip
 page_yields h cs p =
-    let ok = written_accepted h cs p Accepted refl in
+    let ok = written_accepted h cs p accepted refl in
     let same = channels_written h cs p in
     record {
-      accepted = ok;
-      header = simp ok (ap HeaderOrRefusal.Holds (header_written h cs p));
+      header = simp ok (ap Ok (header_written h cs p));
       long = length_written h cs p;
       unpacked = output_accepted h cs p;
-      channels = ap (map Decoded.Holds) same;
+      accepted = ok;
+      channels = ap (map Ok) same;
       count = length-map (strip_channels (strip_of h cs)) code_of ∙ ap length same ∙ p.count;
     }
 
 pub reads_back : ReadsBack
-reads_back f h xs room accepted =
-    subst (Yields (converted f h xs) h) (all_held (decoded_source f xs) (parts f h xs room accepted).1)
-    (page_yields h (channels_of (decoded_source f xs)) (is_page f h xs room accepted))
+reads_back f h xs room ok =
+    subst (Yields (converted f h xs) h) (all_held (decoded_source f xs) (parts f h xs room ok).1)
+    (page_yields h (channels_of (decoded_source f xs)) (is_page f h xs room ok))
 
 -- ---- a page's channels as codes
 
@@ -121,7 +120,7 @@ codes_read k cs t =
     row_read stored_element (λ j c. code_of c) (λ j ds. map code_of ds) (λ j. refl) (λ j c ds. refl) (λ j c. code_channel_law c) 0 k cs t
 
 module _ (h : Header) (cs : List Channel) (p : IsPage h cs) where
-  pub codes_accepted : (room : ℕ) → strip_length h ≤ room → check_source stored h (map code_of cs) room ≡ Accepted
+  pub codes_accepted : (room : ℕ) → strip_length h ≤ room → check_source stored h (map code_of cs) room ≡ accepted
   unfolding check_source check_frame
   codes_accepted room fits =
       let count : length (map code_of cs) ≡ 3 * pixels h = length-map cs code_of ∙ p.count in
@@ -134,17 +133,17 @@ module _ (h : Header) (cs : List Channel) (p : IsPage h cs) where
   codes_converted = ap (strip_of h) (codes_read 0 cs p.valid).channels
 
 pub converts_by_codes : ConvertsByCodes
-converts_by_codes f h xs room accepted =
-    let p = is_page f h xs room accepted in
+converts_by_codes f h xs room ok =
+    let p = is_page f h xs room ok in
     let cs = channels_of (decoded_source f xs) in
     record {
-      accepted = codes_accepted h cs p room (limits f h xs room accepted).fits;
+      accepted = codes_accepted h cs p room (limits f h xs room ok).fits;
       words = codes_converted h cs p;
     }
 
 pub writes_again : WritesAgain
-writes_again s accepted =
-    let q = whole_strip s accepted in
+writes_again s ok =
+    let q = whole_strip s ok in
     let p = page_read s q in
     let same = same_words s q in
     let written = rw (all_held (decoded_body s) q.channels) at (page_yields (header_fields s) (strip_channels s) p) in

@@ -4,42 +4,29 @@
 ghost use Rattle.std.specs.Prelude.{◌≡◌};
 ghost use Rattle.row.specs.Rows.{find_row, row_of, words_of, pointer_to, row_told};
 
-use refusal::{Refusal, Verdict};
+use refusal::Fault;
 use strip::check::check_row;
-use strip::read::body_start;
-use word::header::width_in;
+use strip::read::{body_start, header_fields};
 
-// A part of a strip: `count` words from the index `start` on.
+// A part of a strip: `count` words from the index `start` on. No `Range`: C is told a start and a length.
 #[derive(Clone, Copy)]
 pub struct Part {
     pub start: usize,
     pub count: usize,
 }
 
-// Where a row stands in an accepted strip, or the refusal with the index where it was found.
-#[derive(Clone, Copy)]
-pub enum RowOrRefusal {
-    Holds(Part),
-    Refuses(Refusal, usize),
-}
-
-// Where row y stands, from the red word of its first pixel to the blue word of its last.
+// Where row y of an accepted strip stands, from the red word of its first pixel to the blue word of its last.
 #[tactic(auto, using(crate::proofs::Rows::row_short))]
-pub fn find_row(strip: &[u32], y: usize) -> RowOrRefusal
+pub fn find_row(strip: &[u32], y: usize) -> Result<Part, Fault>
     ensures answer { result ≡ find_row strip.now y }
     ensures told { row_told result ≡ row_told (find_row strip.now y) }
 {
-    let verdict = check_row(strip, y);
-    match verdict {
-        Verdict::Accepted => {
-            let width = width_in(strip[0]) as usize;
-            RowOrRefusal::Holds(Part {
-                start: body_start(strip) + 3 * (width * y),
-                count: 3 * width,
-            })
-        },
-        Verdict::Refused(refusal, i) => RowOrRefusal::Refuses(refusal, i),
-    }
+    check_row(strip, y)?;
+    let width = header_fields(strip).width as usize;
+    Ok(Part {
+        start: body_start(strip) + 3 * (width * y),
+        count: 3 * width,
+    })
 }
 
 // The words of row y; the empty part where `check_row` refuses.
@@ -48,8 +35,7 @@ pub fn row(strip: &[u32], y: usize) -> &[u32]
     ensures words { result.now ≡ words_of (row_of strip.now y) strip.now }
     ensures place { result.ref_ptr ≡ pointer_to (row_of strip.now y) strip.entry.ref_ptr }
 {
-    let found = find_row(strip, y);
-    let RowOrRefusal::Holds(part) = found else {
+    let Ok(part) = find_row(strip, y) else {
         return &strip[..0];
     };
     let start = part.start;

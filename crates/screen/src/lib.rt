@@ -23,29 +23,20 @@ const SAMPLES: [u8; 256] = [
 ];
 
 // The table by value: a loop reads it once and looks up in it.
-#[tactic(auto, unfolding(crate::specs::Samples::sample_of, crate::specs::Samples::curve_test, table::specs::Tables::greatest))]
+#[tactic(auto, using(table::proofs::Entries::table), unfolding(crate::specs::Samples::sample_of, crate::specs::Samples::curve_test, table::specs::Tables::greatest))]
 pub fn sample_table() -> [u8; 256]
     ensures { IsTable 256 sample_of result }
 {
     SAMPLES
 }
 
-// The sample of a level, by the table.
-fn sample(samples: &[u8; 256], level: u8) -> u8
-    requires { IsTable 256 sample_of samples.now }
-    ensures { result ≡ sample_of level }
-{
-    samples[level as usize]
-}
-
-// Levels turned into their samples, each where it stands.
+// Levels turned into their samples, each where it stands. No program prints through it yet.
+#[tactic(auto, using(crate::proofs::Printing::printing_all, crate::proofs::Printing::printing_done))]
 pub fn through_curve(levels: &mut [u8])
     ensures { levels.new ≡ map sample_of levels.old }
 {
     let samples = sample_table();
-    let mut i: usize = 0;
-    while i < levels.len() {
-        levels[i] = sample(&samples, levels[i]);
-        i += 1;
+    for level in levels {
+        *level = samples[*level as usize];
     }
 }

@@ -5,14 +5,14 @@ use mathlib.Core.List.{List, [], ◌∷◌, ◌++◌}
 use native.Mathlib.Omega.{arith}
 use lib.ListN.{length, take, drop, length-take, length-drop, length-append, drop_of_length-le}
 use lib.Seq.{drop-drop, drop-nil, take_at, drop_at}
-use Rattle.refusal.specs.declared.Verdict.{Verdict}
-use Rattle.refusal.specs.declared.Verdict.TheVariants.{Accepted, Refused}
 use Rattle.word.specs.Words.{strip_length}
 use Rattle.word.proofs.Limits.{head_short, pixels_small}
 use Rattle.strip.specs.Checks.{word_at, header_fields, declared_length, check_strip}
 use Rattle.strip.proofs.Places.{place_within}
 use Rattle.series.specs.Series.{Standing, front_strip, strips_from, moved_by, check_standing, strip_at, standing_at}
 use Rattle.series.specs.loops.Walks.{series_from, PlacesFit}
+use Rattle.std.specs.Prelude.{Err, Ok}
+use Rattle.refusal.specs.Verdicts.{Verdict, accepted}
 
 -- ---- the strip at the front of some words
 
@@ -71,8 +71,8 @@ module _ (r : List ℕ) (i : ℕ) where
   places_fit h few = by (check_strip (strip_at r i)) refl
     where
       by : (v : Verdict) → check_strip (strip_at r i) ≡ v → PlacesFit i v
-      by Accepted e = tt
-      by (Refused q j) e =
+      by (Ok u) e = tt
+      by (Err f) e =
           let within = place_within (strip_at r i) e in
           let small = pixels_small _ (word_at (strip_at r i) 0) refl in
           omega (arith, head_short (header_fields (strip_at r i)))
@@ -98,15 +98,15 @@ module _ (s rest : List ℕ) (long : length s ≡ declared_length s) where
 
 -- ---- the check of a strip where it stands
 
-moved_accepted : (start : ℕ) (v : Verdict) → moved_by start v ≡ Accepted → v ≡ Accepted
-moved_accepted start Accepted e = refl
-moved_accepted start (Refused r i) e = cc
+moved_accepted : (start : ℕ) (v : Verdict) → moved_by start v ≡ accepted → v ≡ accepted
+moved_accepted start (Ok u) e = refl
+moved_accepted start (Err f) e = cc
 
 module _ (b : Standing) where
-  pub standing_accepted : check_standing b ≡ Accepted → check_strip b.strip ≡ Accepted
+  pub standing_accepted : check_standing b ≡ accepted → check_strip b.strip ≡ accepted
   unfolding check_standing
   standing_accepted e = moved_accepted b.start _ e
 
-  pub standing_met : check_strip b.strip ≡ Accepted → check_standing b ≡ Accepted
+  pub standing_met : check_strip b.strip ≡ accepted → check_standing b ≡ accepted
   unfolding check_standing
   standing_met e = rw e

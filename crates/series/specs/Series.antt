@@ -1,8 +1,8 @@
 -- Strips one behind another in one row of words. Assumes nothing.
-use Rattle.std.specs.Prelude.{ℕ, zero, suc, ◌+◌, ◌-◌, List, [], ◌∷◌, take, drop}
-use Rattle.refusal.specs.declared.Verdict.{Verdict}
-use Rattle.refusal.specs.declared.Verdict.TheVariants.{Accepted, Refused}
+use Rattle.std.specs.Prelude.{ℕ, zero, suc, ◌+◌, ◌-◌, List, [], ◌∷◌, take, drop, Err, Ok}
 use Rattle.strip.specs.Checks.{declared_length, check_strip}
+use Rattle.refusal.specs.Faults.{◌found_at◌}
+use Rattle.refusal.specs.Verdicts.{Verdict, accepted}
 
 -- a strip in a row: the index of its first word, and its words
 pub record Standing : Type 0 where
@@ -29,8 +29,8 @@ series_of r = strips_from 0 0 r
 
 -- "places count from the row's start" (1, 2, 3 and 10 have place 0, whatever the index)
 abbrev pub moved_by : (start : ℕ) → Verdict → Verdict
-moved_by start Accepted = Accepted
-moved_by start (Refused r i) = Refused r (start + i)
+moved_by start (Ok u) = accepted
+moved_by start (Err f) = Err (f.refusal found_at (start + f.index))
 
 unfoldable pub check_standing : Standing → Verdict
 check_standing b = moved_by b.start (check_strip b.strip)

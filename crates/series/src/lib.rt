@@ -5,7 +5,7 @@ ghost use Rattle.std.specs.Prelude.{◌≡◌, ◌≤◌, length};
 ghost use Rattle.series.specs.Series.{front_strip, moved_by, check_standing, strip_at, standing_at};
 ghost use Rattle.series.specs.loops.Walks.{PlacesFit};
 
-use refusal::Verdict;
+use refusal::Fault;
 use strip::check::check;
 use strip::read::declared_length;
 
@@ -13,12 +13,7 @@ use strip::read::declared_length;
 fn front_length(row: &[u32]) -> usize
     ensures { result ≡ length (front_strip row.now) }
 {
-    let declared = declared_length(row);
-    if declared < row.len() {
-        declared
-    } else {
-        row.len()
-    }
+    declared_length(row).min(row.len())
 }
 
 // The strip that begins at an index of a row.
@@ -31,19 +26,16 @@ pub fn strip_at(row: &[u32], start: usize) -> &[u32]
 }
 
 // A verdict on a strip that begins at an index of a row, its places counted from the row's start.
-fn moved_by(start: usize, verdict: Verdict) -> Verdict
+fn moved_by(start: usize, verdict: Result<(), Fault>) -> Result<(), Fault>
     requires { PlacesFit start verdict }
     ensures { result ≡ moved_by start verdict }
 {
-    match verdict {
-        Verdict::Accepted => Verdict::Accepted,
-        Verdict::Refused(refusal, i) => Verdict::Refused(refusal, start + i),
-    }
+    verdict.map_err(|fault| fault.refusal.at(start + fault.index))
 }
 
 // The strip that begins at an index of a row is checked where it stands.
-#[tactic(auto, unfolding(crate::specs::Series::check_standing))]
-pub fn check_at(row: &[u32], start: usize) -> Verdict
+#[tactic(auto, using(crate::proofs::Strips::places_fit), unfolding(crate::specs::Series::check_standing))]
+pub fn check_at(row: &[u32], start: usize) -> Result<(), Fault>
     requires { start ≤ length row.now }
     ensures { result ≡ check_standing (standing_at row.now start) }
 {

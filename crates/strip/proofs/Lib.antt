@@ -1,4 +1,5 @@
 pub mod Limits
 pub mod Bodies
+pub mod Parts
 pub mod RoundTrip
 pub mod Places

@@ -8,9 +8,7 @@ use native.Mathlib.Omega.{arith}
 use borrow.Author.Tests.{eqb-true, leb-true, ltb-true, le-leb}
 use lib.ListN.{length, drop, length-drop}
 use lib.Seq.{length-take-le}
-use Rattle.refusal.specs.declared.Verdict.{Verdict}
-use Rattle.refusal.specs.declared.Verdict.TheVariants.{Accepted, Refused}
-use Rattle.refusal.specs.Verdicts.{require, and_then}
+use Rattle.refusal.specs.Verdicts.{require, and_then, Verdict, accepted}
 use Rattle.refusal.proofs.Laws.{require_passed, and_passed, and_met}
 use Rattle.word.specs.Words.{body_start, end_index, pixels, size_fits, key_fits, size_word, key_word, end_word}
 use Rattle.word.specs.Placing.{first_refusal}
@@ -30,6 +28,7 @@ use Rattle.strip.specs.Checks.{
 }
 use Rattle.word.specs.Fields.{check_size_word, check_key_word}
 use Rattle.word.proofs.Thirds.{IsThird, is_third}
+use Rattle.std.specs.Prelude.{Err, Ok}
 
 -- ---- a strip's header and length
 
@@ -41,7 +40,7 @@ pub record Head (s : List ℕ) : Type 0 where
   pub white : IsThird (word_at s 2)
   pub long : length s ≡ declared_length s
 
-pub headed : (s : List ℕ) → check_head s ≡ Accepted → Head s
+pub headed : (s : List ℕ) → check_head s ≡ accepted → Head s
 unfolding check_head check_size_word check_key_word
 headed s e =
     let a = and_passed _ _ (require_passed _ _ _ _ e).1 in
@@ -69,11 +68,11 @@ length_body s h =
 
 pub record Whole (s : List ℕ) : Type 0 where
   pub head : Head s
-  pub channels : first_refusal (decoded_body s) ≡ Accepted
+  pub channels : first_refusal (decoded_body s) ≡ accepted
   pub end : word_at s (end_index (header_fields s)) ≡ end_word (pixels (header_fields s))
 
 -- whatever a call adds
-pub whole : (added : Verdict) (s : List ℕ) → check_with added s ≡ Accepted → (added ≡ Accepted) × Whole s
+pub whole : (added : Verdict) (s : List ℕ) → check_with added s ≡ accepted → (added ≡ accepted) × Whole s
 unfolding check_with check_body
 whole added s e =
     let a = and_passed _ _ e in
@@ -83,12 +82,12 @@ whole added s e =
       record { head = headed s a.0; channels = c.0; end = eqb-true _ _ (require_passed _ _ _ _ c.1).0 },
     )
 
-pub whole_strip : (s : List ℕ) → check_strip s ≡ Accepted → Whole s
+pub whole_strip : (s : List ℕ) → check_strip s ≡ accepted → Whole s
 unfolding check_strip
-whole_strip s e = (whole Accepted s e).1
+whole_strip s e = (whole accepted s e).1
 
 -- whatever a call adds, the strip itself is accepted
-strip_accepted : (added : Verdict) (s : List ℕ) → check_with added s ≡ Accepted → check_strip s ≡ Accepted
+strip_accepted : (added : Verdict) (s : List ℕ) → check_with added s ≡ accepted → check_strip s ≡ accepted
 unfolding check_strip check_with
 strip_accepted added s e =
     let a = and_passed _ _ e in
@@ -100,13 +99,13 @@ pub record Fits (s : List ℕ) (room : ℕ) : Type 0 where
   pub strip : Whole s
   pub fits : channel_count s ≤ room
 
-pub output_limits : (s : List ℕ) (room : ℕ) → check_output s room ≡ Accepted → Fits s room
+pub output_limits : (s : List ℕ) (room : ℕ) → check_output s room ≡ accepted → Fits s room
 unfolding check_output
 output_limits s room e =
     let q = whole _ s e in
     record { strip = q.1; fits = leb-true _ _ (require_passed _ _ _ _ q.0).0 }
 
-pub output_strip : (s : List ℕ) (room : ℕ) → check_output s room ≡ Accepted → check_strip s ≡ Accepted
+pub output_strip : (s : List ℕ) (room : ℕ) → check_output s room ≡ accepted → check_strip s ≡ accepted
 unfolding check_output
 output_strip s room e = strip_accepted _ s e
 
@@ -116,14 +115,14 @@ unfolding check_output check_strip check_with and_then require
 room_enough s room enough = go (check_head s) refl
   where
     go : (v : Verdict) → check_head s ≡ v → check_output s room ≡ check_strip s
-    go Accepted e = rw (e, le-leb _ _ (enough (headed s e).long))
-    go (Refused r i) e = rw e
+    go (Ok u) e = rw (e, le-leb _ _ (enough (headed s e).long))
+    go (Err f) e = rw e
 
 pub record Inside (s : List ℕ) (y : ℕ) : Type 0 where
   pub strip : Whole s
   pub inside : (header_fields s).width * y + (header_fields s).width ≤ pixels (header_fields s)
 
-pub row_limits : (s : List ℕ) (y : ℕ) → check_row s y ≡ Accepted → Inside s y
+pub row_limits : (s : List ℕ) (y : ℕ) → check_row s y ≡ accepted → Inside s y
 unfolding check_row
 row_limits s y e =
     let q = whole _ s e in

@@ -6,22 +6,21 @@ use mathlib.Core.List.{List, [], ◌∷◌}
 use native.Mathlib.Omega.{arith}
 use lib.Dec.{eqb}
 use lib.ListN.{length, drop, length-take}
-use Rattle.number.specs.declared.channel.Decoded.{Decoded}
-use Rattle.number.specs.declared.channel.Decoded.TheVariants.{Holds, Refuses}
 use Rattle.refusal.specs.declared.Refusal.{Refusal}
-use Rattle.refusal.specs.declared.Verdict.{Verdict}
-use Rattle.refusal.specs.declared.Verdict.TheVariants.{Accepted, Refused}
-use Rattle.refusal.specs.Verdicts.{require, and_then}
+use Rattle.refusal.specs.Verdicts.{require, and_then, Verdict, accepted}
 use Rattle.word.specs.Fields.{kind_in, decode_word, check_size_word, check_key_word, check_white_word}
 use Rattle.word.specs.Placing.{placed, verdict_at, first_refusal}
 use Rattle.word.specs.Words.{body_start, end_index}
 use Rattle.strip.specs.Checks.{word_at, header_fields, channel_count, body_part, check_head, check_body, check_with, check_strip}
+use Rattle.std.specs.Prelude.{Err, Ok}
+use Rattle.number.specs.Channels.{Decoded}
+use Rattle.refusal.specs.declared.Fault.{Fault}
 
 module _ (n : ℕ) where
   -- the place of a refusal is at most n
   abbrev UpTo : Verdict → Type 0
-  UpTo Accepted = Unit
-  UpTo (Refused r i) = i ≤ n
+  UpTo (Ok u) = Unit
+  UpTo (Err f) = f.index ≤ n
 
   up_require : (b : Bool) (r : Refusal) (i : ℕ) (v : Verdict) → i ≤ n → UpTo v → UpTo (require b r i v)
   unfolding require
@@ -30,12 +29,12 @@ module _ (n : ℕ) where
 
   up_and : (v w : Verdict) → UpTo v → UpTo w → UpTo (and_then v w)
   unfolding and_then
-  up_and Accepted w h g = g
-  up_and (Refused r i) w h g = h
+  up_and (Ok u) w h g = g
+  up_and (Err f) w h g = h
 
   up_decoded : (i : ℕ) (d : Decoded) → i ≤ n → UpTo (verdict_at i d)
-  up_decoded i (Holds c) h = tt
-  up_decoded i (Refuses r) h = h
+  up_decoded i (Ok c) h = tt
+  up_decoded i (Err r) h = h
 
   up_words : (start k : ℕ) (ws : List ℕ) → start + k + length ws ≤ n → UpTo (first_refusal (placed decode_word start k ws))
   up_words start k [] h = tt
@@ -54,7 +53,7 @@ module _ (n : ℕ) where
   unfolding check_white_word
   up_white w h = by (eqb (kind_in w) 3) _ (up_require _ _ _ _ h (up_require _ _ _ _ (omega arith) tt))
     where
-      by : (b : Bool) (v : Verdict) → UpTo v → UpTo (cond b v Accepted)
+      by : (b : Bool) (v : Verdict) → UpTo v → UpTo (cond b v accepted)
       by true v g = g
       by false v g = tt
 
@@ -71,5 +70,5 @@ places s =
     (up_and n _ _ tt
     (up_and n _ _ (up_words n (body_start (header_fields s)) 0 (body_part s) (omega (arith, long))) (up_require n _ _ _ _ (omega arith) tt)))
 
-pub place_within : (s : List ℕ) {r : Refusal} {i : ℕ} → check_strip s ≡ Refused r i → i ≤ end_index (header_fields s)
+pub place_within : (s : List ℕ) {f : Fault} → check_strip s ≡ Err f → f.index ≤ end_index (header_fields s)
 place_within s e = subst (UpTo (end_index (header_fields s))) e (places s)

@@ -9,16 +9,10 @@ use borrow.Author.Tests.{eq-eqb, le-leb}
 use lib.ListN.{length, get_or, take, drop, length-map, length-append, length-drop}
 use lib.Seq.{take_at, drop-append_seam, get_or_at, get_or-append-add, get_or-drop, take-suc, take_all}
 use Rattle.number.specs.declared.channel.Channel.{Channel}
-use Rattle.number.specs.declared.channel.Decoded.{Decoded}
-use Rattle.number.specs.declared.channel.Decoded.TheVariants.{Holds}
-use Rattle.number.specs.Channels.{IsChannel, code_of, channel_in}
+use Rattle.number.specs.Channels.{IsChannel, code_of, channel_in, Decoded}
 use Rattle.number.proofs.Laws.{Every}
-use Rattle.refusal.specs.declared.Verdict.{Verdict}
-use Rattle.refusal.specs.declared.Verdict.TheVariants.{Accepted}
 use Rattle.refusal.proofs.Laws.{and_passed, and_met, require_met}
-use Rattle.white.specs.declared.White.{White}
-use Rattle.white.specs.declared.White.TheVariants.{Absent, Tenths}
-use Rattle.white.specs.Whites.{white_fits}
+use Rattle.white.specs.Whites.{white_fits, White}
 use Rattle.word.specs.declared.header.Header.{Header}
 use Rattle.word.specs.Words.{pixels, size_fits, key_fits, size_word, key_word, white_words, head_words, channel_word, body_words, end_word, body_start, end_index, strip_length, strip_of}
 use Rattle.word.specs.Placing.{Placed, placed, first_refusal, channels_of}
@@ -42,18 +36,20 @@ use Rattle.word.proofs.Limits.{size_limits, key_limits}
 use Rattle.strip.proofs.Limits.{Whole, length_body}
 use Rattle.word.proofs.Decoding.{holds, is_word, word_read, code_small}
 use Rattle.word.proofs.Thirds.{white_read, white_accepted, channel_no_white, channel_accepted}
+use Rattle.std.specs.Prelude.{None, Ok, Some}
+use Rattle.refusal.specs.Verdicts.{Verdict, accepted}
 
 -- ---- rows of elements that are read as channels, whatever f reads in one
 
-pub channels_valid : (f : ℕ → ℕ → Decoded) → ((k x : ℕ) (c : Channel) → f k x ≡ Holds c → IsChannel c) → (start k : ℕ) (xs : List ℕ)
-    → first_refusal (placed f start k xs) ≡ Accepted → Every IsChannel (channels_of (placed f start k xs))
+pub channels_valid : (f : ℕ → ℕ → Decoded) → ((k x : ℕ) (c : Channel) → f k x ≡ Ok c → IsChannel c) → (start k : ℕ) (xs : List ℕ)
+    → first_refusal (placed f start k xs) ≡ accepted → Every IsChannel (channels_of (placed f start k xs))
 channels_valid f valid start k [] e = tt
 channels_valid f valid start k (x ∷ xs) e =
     let q = and_passed _ _ e in
     (valid k x _ (holds _ _ q.0), channels_valid f valid start (suc k) xs q.1)
 
 pub record ReadAs (f : ℕ → ℕ → Decoded) (start k : ℕ) (xs : List ℕ) (cs : List Channel) : Type 0 where
-  pub accepted : first_refusal (placed f start k xs) ≡ Accepted
+  pub accepted : first_refusal (placed f start k xs) ≡ accepted
   pub channels : channels_of (placed f start k xs) ≡ cs
 
 -- a row that holds g k c for each channel c, from which f reads c again
@@ -63,7 +59,7 @@ module _
     (row : ℕ → List Channel → List ℕ)
     (none : (k : ℕ) → row k [] ≡ [])
     (one : (k : ℕ) (c : Channel) (cs : List Channel) → row k (c ∷ cs) ≡ g k c ∷ row (suc k) cs)
-    (read : (k : ℕ) (c : Channel) → IsChannel c → f k (g k c) ≡ Holds c) where
+    (read : (k : ℕ) (c : Channel) → IsChannel c → f k (g k c) ≡ Ok c) where
   pub row_read : (start k : ℕ) (cs : List Channel) → Every IsChannel cs → ReadAs f start k (row k cs) cs
   row_read start k [] t = rw (none k) (record { accepted = refl; channels = refl })
   row_read start k (c ∷ cs) t =
@@ -76,7 +72,7 @@ module _
 words_read : (start k : ℕ) (cs : List Channel) → Every IsChannel cs → ReadAs decode_word start k (body_words k cs) cs
 words_read = row_read decode_word (λ k c. channel_word k (code_of c)) body_words (λ k. refl) (λ k c cs. refl) word_read
 
-words_written : (start k : ℕ) (ws : List ℕ) → first_refusal (placed decode_word start k ws) ≡ Accepted
+words_written : (start k : ℕ) (ws : List ℕ) → first_refusal (placed decode_word start k ws) ≡ accepted
     → body_words k (channels_of (placed decode_word start k ws)) ≡ ws
 words_written start k [] e = refl
 words_written start k (w ∷ ws) e =
@@ -84,7 +80,7 @@ words_written start k (w ∷ ws) e =
     let w₁ = is_word k w (holds _ _ q.0) in
     rw (w₁.coded.code, ← w₁.written, words_written start (suc k) ws q.1)
 
-word_valid : (k w : ℕ) (c : Channel) → decode_word k w ≡ Holds c → IsChannel c
+word_valid : (k w : ℕ) (c : Channel) → decode_word k w ≡ Ok c → IsChannel c
 word_valid k w c e = (is_word k w e).coded.valid
 
 -- ---- a strip that was written
@@ -103,12 +99,12 @@ third_of w cs n = get_or (white_words w ++ (body_words 0 cs ++ end_word n ∷ []
 
 record ThirdRead (w : White) (cs : List Channel) (n : ℕ) : Type 0 where
   read : white_in (third_of w cs n) ≡ w
-  accepted : check_white_word (third_of w cs n) ≡ Accepted
+  accepted : check_white_word (third_of w cs n) ≡ accepted
 
 third_read : (w : White) (cs : List Channel) (n : ℕ) → white_fits w ≡ true → 0 < length cs → Every IsChannel cs → ThirdRead w cs n
-third_read (Tenths W) cs n e h t = record { read = white_read W e; accepted = white_accepted W e }
-third_read Absent [] n e h t = absurd (omega (arith, h))
-third_read Absent (c ∷ cs) n e h t =
+third_read (Some W) cs n e h t = record { read = white_read W e; accepted = white_accepted W e }
+third_read None [] n e h t = absurd (omega (arith, h))
+third_read None (c ∷ cs) n e h t =
     let small = code_small c t.0 in
     record { read = channel_no_white 0 (code_of c) small; accepted = channel_accepted 0 (code_of c) small }
 
@@ -149,7 +145,7 @@ module _ (h : Header) (cs : List Channel) (ok : IsPage h cs) where
       ∙ get_or_at (body_words 0 cs) (end_word (pixels h)) [] 0 (3 * pixels h) words_long
       ∙ sym (ap (λ (g : Header). end_word (pixels g)) header_written)
 
-  head_accepted : check_head (strip_of h cs) ≡ Accepted
+  head_accepted : check_head (strip_of h cs) ≡ accepted
   unfolding check_head check_size_word check_key_word
   head_accepted =
       let s = strip_of h cs in
@@ -166,17 +162,17 @@ module _ (h : Header) (cs : List Channel) (ok : IsPage h cs) where
   read : ReadAs decode_word (body_start (header_fields (strip_of h cs))) 0 (body_words 0 cs) cs
   read = words_read _ 0 cs ok.valid
 
-  body_accepted : check_body (strip_of h cs) ≡ Accepted
+  body_accepted : check_body (strip_of h cs) ≡ accepted
   unfolding check_body
   body_accepted =
       and_met (rw body_written read.accepted) (require_met _ _ (eq-eqb _ _ end_written) refl)
 
   -- what was written is accepted, whatever a call adds that is accepted
-  pub written_accepted : (added : Verdict) → added ≡ Accepted → check_with added (strip_of h cs) ≡ Accepted
+  pub written_accepted : (added : Verdict) → added ≡ accepted → check_with added (strip_of h cs) ≡ accepted
   unfolding check_with
   written_accepted added e = and_met head_accepted (and_met e body_accepted)
 
-  pub output_accepted : (room : ℕ) → 3 * pixels h ≤ room → check_output (strip_of h cs) room ≡ Accepted
+  pub output_accepted : (room : ℕ) → 3 * pixels h ≤ room → check_output (strip_of h cs) room ≡ accepted
   unfolding check_output
   output_accepted room fits =
       let enough : channel_count (strip_of h cs) ≤ room = rw (width_read, height_read) fits in

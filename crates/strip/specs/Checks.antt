@@ -4,9 +4,7 @@
 -- length".
 use Rattle.std.specs.Prelude.{ℕ, ◌*◌, List, length, get_or, take, drop, ltb, leb, eqb}
 use Rattle.refusal.specs.declared.Refusal.TheVariants.{WrongLength, SmallOutput, UnexpectedWord, NoSuchRow}
-use Rattle.refusal.specs.declared.Verdict.{Verdict}
-use Rattle.refusal.specs.declared.Verdict.TheVariants.{Accepted}
-use Rattle.refusal.specs.Verdicts.{require, and_then}
+use Rattle.refusal.specs.Verdicts.{require, and_then, Verdict, accepted}
 use Rattle.word.specs.declared.header.Header.{Header}
 use Rattle.word.specs.Fields.{width_in, height_in, low16, white_in, decode_word, check_size_word, check_key_word, check_white_word}
 use Rattle.word.specs.Words.{pixels, end_word, body_start, end_index, strip_length}
@@ -50,25 +48,25 @@ check_head s =
     (and_then (check_key_word (word_at s 1))
     (and_then (check_white_word (word_at s 2))
     (require (eqb (length s) (declared_length s)) WrongLength 0
-    Accepted))))
+    accepted))))
 
 unfoldable pub check_body : List ℕ → Verdict
 check_body s =
     and_then (first_refusal (decoded_body s))
     (require (eqb (word_at s (end_index (header_fields s))) (end_word (pixels (header_fields s)))) UnexpectedWord (end_index (header_fields s))
-    Accepted)
+    accepted)
 
 -- a strip's checks, with what a call adds between length and words
 unfoldable pub check_with : Verdict → List ℕ → Verdict
 check_with added s = and_then (check_head s) (and_then added (check_body s))
 
 unfoldable pub check_strip : List ℕ → Verdict
-check_strip s = check_with Accepted s
+check_strip s = check_with accepted s
 
 -- "tray shorter than the outcome", here of one element for each channel
 unfoldable pub check_output : List ℕ → (room : ℕ) → Verdict
-check_output s room = check_with (require (leb (channel_count s) room) SmallOutput 0 Accepted) s
+check_output s room = check_with (require (leb (channel_count s) room) SmallOutput 0 accepted) s
 
 -- "row number, from 0, not below the height"
 unfoldable pub check_row : List ℕ → (y : ℕ) → Verdict
-check_row s y = check_with (require (ltb y (header_fields s).height) NoSuchRow 0 Accepted) s
+check_row s y = check_with (require (ltb y (header_fields s).height) NoSuchRow 0 accepted) s

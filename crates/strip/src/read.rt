@@ -8,14 +8,14 @@ ghost use Rattle.refusal.specs.Output.{onto, after};
 ghost use Rattle.refusal.specs.Verdicts.{report_of};
 
 use crate::check::{check, check_output};
-use refusal::{Refusal, Verdict};
+use refusal::Fault;
 use word::header::{Header, height_in, low_half, pixel_count, white_in, width_in};
 
 // The word at an index of a row; 0 where there is none.
 pub(crate) fn word_at(row: &[u32], i: usize) -> u32
     ensures { result ≡ word_at row.now i }
 {
-    if i < row.len() { row[i] } else { 0 }
+    row.get(i).copied().unwrap_or(0)
 }
 
 // The pixels that the strip at the front of a row declares.
@@ -46,19 +46,12 @@ pub fn declared_length(row: &[u32]) -> usize
     end_index(row) + 1
 }
 
-// An index, but not beyond the end of a row of so many words.
-fn within(i: usize, length: usize) -> usize
-    ensures { result ≡ min i length }
-{
-    if i < length { i } else { length }
-}
-
 // Its channel words; a row that is cut short has those that are there.
 pub fn body(row: &[u32]) -> &[u32]
     ensures { result.now ≡ body_part row.now }
 {
-    let start = within(body_start(row), row.len());
-    let end = within(end_index(row), row.len());
+    let start = body_start(row).min(row.len());
+    let end = end_index(row).min(row.len());
     &row[start..end]
 }
 
@@ -74,23 +67,13 @@ pub fn header_fields(row: &[u32]) -> Header
     }
 }
 
-// The header of an accepted strip, or its refusal with the index where it was found.
-#[derive(Clone, Copy)]
-pub enum HeaderOrRefusal {
-    Holds(Header),
-    Refuses(Refusal, usize),
-}
-
 // The header of a strip, or its refusal.
-pub fn header(strip: &[u32]) -> HeaderOrRefusal
+pub fn header(strip: &[u32]) -> Result<Header, Fault>
     ensures answer { result ≡ read_header strip.now }
     ensures told { header_told result ≡ header_told (read_header strip.now) }
 {
-    let verdict = check(strip);
-    match verdict {
-        Verdict::Accepted => HeaderOrRefusal::Holds(header_fields(strip)),
-        Verdict::Refused(refusal, i) => HeaderOrRefusal::Refuses(refusal, i),
-    }
+    check(strip)?;
+    Ok(header_fields(strip))
 }
 
 // The lower halves of the words, into the front of the output.
@@ -98,23 +81,19 @@ fn store_codes(words: &[u32], output: &mut [u16])
     requires { length words.now ≤ length output.old }
     ensures { output.new ≡ onto (map low16 words.now) output.old }
 {
-    let mut i: usize = 0;
-    while i < words.len() {
-        output[i] = low_half(words[i]);
-        i += 1;
+    for (i, &word) in words.iter().enumerate() {
+        output[i] = low_half(word);
     }
 }
 
 // The channels of an accepted strip as 16-bit numbers, into the front of the output; a refusal leaves the output as it was.
-pub fn unpack(strip: &[u32], output: &mut [u16]) -> Verdict
+#[tactic(auto, using(crate::proofs::Bodies::body_fits, crate::proofs::Bodies::codes_of_body))]
+pub fn unpack(strip: &[u32], output: &mut [u16]) -> Result<(), Fault>
     ensures verdict { result ≡ check_output strip.now (length output.old) }
     ensures outcome { report_of result ≡ report_of (check_output strip.now (length output.old)) }
     ensures content { output.new ≡ after result (strip_codes strip.now) output.old }
 {
-    let verdict = check_output(strip, output.len());
-    let Verdict::Accepted = verdict else {
-        return verdict;
-    };
+    check_output(strip, output.len())?;
     store_codes(body(strip), output);
-    Verdict::Accepted
+    Ok(())
 }

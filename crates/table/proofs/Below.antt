@@ -1,10 +1,5 @@
 -- A test of all numbers below a bound, which is computed. Assumes nothing.
-use mathlib.Core.Bool.{Bool, true, ◌&&◌}
-use mathlib.Core.Logic.{⊎_elim}
-use mathlib.Core.Path.{subst, sym}
-use Prim.Native.Nat.{ℕ, zero, suc, ◌<◌}
-use native.Mathlib.Nat.{le_of_suc-le-suc, not-suc-le-zero, eq-or-lt_of_le}
-use lib.Dec.{T}
+use Rattle.std.proofs.Common.{Bool, true, ◌&&◌, ⊎_elim, subst, sym, ℕ, zero, suc, ◌<◌, le_of_suc-le-suc, not-suc-le-zero, eq-or-lt_of_le, T}
 use store.Enc.{and_l, and_r}
 
 module _ (test : ℕ → Bool) where

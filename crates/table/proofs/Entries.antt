@@ -1,12 +1,6 @@
 -- A rule of a table, proved at all its entries by one test that is computed, entry by entry. Assumes nothing.
-use mathlib.Core.Path.{◌≡◌, ◌∙◌, subst, sym}
-use mathlib.Core.Bool.{Bool, true, ◌&&◌}
-use mathlib.Core.List.{List, [], ◌∷◌}
-use Prim.Native.Nat.{ℕ, zero, suc, ◌+◌, ◌<◌}
-use native.Mathlib.Nat.{add-zero, zero-add, add-suc, suc-add, le_of_suc-le-suc, not-suc-le-zero}
-use lib.Dec.{T, eqb, eqb→eq}
+use Rattle.std.proofs.Common.{◌≡◌, ◌∙◌, subst, sym, Bool, true, ◌&&◌, List, [], ◌∷◌, ℕ, zero, suc, ◌+◌, ◌<◌, add-zero, zero-add, add-suc, suc-add, le_of_suc-le-suc, not-suc-le-zero, T, eqb, eqb→eq, length, get_or}
 use store.Enc.{and_l, and_r}
-use lib.ListN.{length, get_or}
 use Rattle.table.specs.Tables.{IsTable}
 
 -- each entry is what the rule says at its place, counted from i

@@ -1,10 +1,6 @@
 -- The greatest number up to a bound that passes a test. Assumes nothing.
-use mathlib.Core.Bool.{Bool, true, false, not, cond}
-use Prim.Native.Nat.{ℕ, zero, suc, ◌≤◌, zero-le}
-use native.Mathlib.Nat.{le_refl, le_step, le_of_suc-le-suc, eq-or-lt_of_le}
-use mathlib.Core.Path.{subst}
-use mathlib.Core.Logic.{⊎_elim}
-use lib.Dec.{T, T_not}
+use Rattle.std.proofs.Common.{Bool, true, false, not, cond, ℕ, zero, suc, ◌≤◌, zero-le, le_refl, le_of_suc-le-suc, eq-or-lt_of_le, subst, ⊎_elim, T, T_not}
+use native.Mathlib.Nat.{le_step}
 use Rattle.table.specs.Tables.{greatest}
 
 by_test : (Q : ℕ → Type 0) (b : Bool) (x y : ℕ) → (T b → Q x) → (T (not b) → Q y) → Q (cond b x y)

@@ -6,12 +6,12 @@ use Prim.Native.Nat.{ℕ, ◌+◌, ◌*◌, ◌≤◌, ◌<◌}
 use native.Mathlib.Omega.{arith}
 use native.Mathlib.Nat.{le_dest, le_refl, mul-le-mul, mul-le-mul_left, mul-pos}
 use Rattle.number.proofs.Laws.{Frac, AtMost}
-use Rattle.white.specs.declared.White.{White}
-use Rattle.white.specs.declared.White.TheVariants.{Absent, Tenths}
 use Rattle.white.specs.Whites.{white_fits}
 use Rattle.white.proofs.Limits.{white_limits}
 use Rattle.tone.specs.Levels.{reinhard, white_point, curve_of}
 use Rattle.tone.specs.Claims.{WhiteIsOne}
+use Rattle.std.specs.Prelude.{None, Some}
+use Rattle.white.specs.Whites.{White}
 
 -- the ratio r is a/b
 pub record NeverStretches (f : Frac → Frac) : Type 0 where
@@ -87,9 +87,9 @@ white_between W w =
 -- ---- the curve of a page
 
 pub curve_ratio : (w : White) → white_fits w ≡ true → NeverStretches (curve_of w)
-curve_ratio Absent h = reinhard_ratio
-curve_ratio (Tenths W) h = white_ratio W (white_limits W h).least
+curve_ratio None h = reinhard_ratio
+curve_ratio (Some W) h = white_ratio W (white_limits W h).least
 
 pub curve_between : (w : White) → white_fits w ≡ true → Between (curve_of w)
-curve_between Absent h = reinhard_between
-curve_between (Tenths W) h = white_between W (white_limits W h).least
+curve_between None h = reinhard_between
+curve_between (Some W) h = white_between W (white_limits W h).least

@@ -42,13 +42,13 @@ use Rattle.number.proofs.Laws.{
   stored_as,
 }
 use Rattle.number.specs.declared.ratio.Stored.{Stored}
-use Rattle.white.specs.declared.White.TheVariants.{Absent}
 use Rattle.white.specs.Whites.{white_fits}
 use Rattle.tone.specs.Levels.{reinhard, curve_of, display_of}
 use Rattle.tone.specs.Claims.{IsScaled, DarkIsItself, BrightIsWhite}
 use Rattle.luminance.proofs.Products.{power_difference, shift_most}
 use Rattle.luminance.proofs.Storables.{unit_ratio, Storable, StoresAs, shut}
 use Rattle.tone.proofs.Curves.{NeverStretches, Between, curve_ratio, curve_between}
+use Rattle.std.specs.Prelude.{None}
 
 -- L/(1+L) of v · 2^e units
 abbrev share : (v e : ℕ) → Frac
@@ -142,7 +142,7 @@ dark_is_itself w fits l h = dark (curve_of w) (curve_ratio w fits) (curve_betwee
 
 pub plain_dark : (l : Stored) → l.exponent < 114 → IsScaled l → l ≡ display_of reinhard l
 unfolding white_fits
-plain_dark l h s = sym (dark_is_itself Absent refl l h s.mantissa)
+plain_dark l h s = sym (dark_is_itself None refl l h s.mantissa)
 
 -- A bright one is white; for e = 136 and M = 254 the mantissa is 254.
 pub bright : (l : Stored) → 136 < l.exponent → IsMantissa l.mantissa

@@ -1,12 +1,14 @@
 -- The powers of two of the power table. Assumes nothing.
-use mathlib.Core.Path.{◌≡◌, ◌∙◌, ap, sym}
-use Prim.Native.Nat.{ℕ, ◌+◌, ◌-◌, ◌*◌, ◌^◌, ◌≤◌, ◌<◌, min}
+use mathlib.Core.Path.{◌≡◌, ◌∙◌, ap}
+use Prim.Native.Nat.{ℕ, ◌+◌, ◌-◌, ◌*◌, ◌/◌, ◌%◌, ◌^◌, ◌≤◌, ◌<◌, min}
 use native.Mathlib.Decide.{dec_lt}
-use native.Mathlib.Nat.{min-eq_left, min-eq_right}
+use native.Mathlib.Nat.{min-eq_left, min-eq_right, mul-le-mul}
 use native.Mathlib.Omega.{arith}
-use lib.Pow.{pow-add, pow_mono}
+use lib.Pow.{pow_mono}
 use borrow.Author.Tests.{lt-ltb, le-ltb}
-use Rattle.tone.specs.loops.Factors.{power_at}
+use lib.ListN.{get_or}
+use mathlib.Core.List.{List}
+use Rattle.tone.specs.loops.Factors.{power_at, IsPowerTable}
 
 pub power_below : (i : ℕ) → i < 374 → power_at i ≡ 0
 unfolding power_at
@@ -29,13 +31,12 @@ power_most i = go (dec_lt i 374)
     go (yes h) = omega (arith, power_below i h)
     go (no h) = rw (power_from i (omega arith)) (pow_mono {i = min 385 i - 374} {j = 11} (omega arith))
 
--- from one index to the next
-pub power_doubled : (i : ℕ) → 374 ≤ i → i < 385 → 2 * power_at i ≡ power_at (i + 1)
-power_doubled i h k =
-    ap (λ (z : ℕ). 2 * z) (power_within i h (omega arith))
-    ∙ sym (pow-add 2 1 (i - 374))
-    ∙ ap (λ (z : ℕ). 2 ^ z) (omega arith)
-    ∙ sym (power_within (i + 1) (omega arith) (omega arith))
-
-pub power_same : (i : ℕ) → 385 ≤ i → power_at i ≡ power_at (i + 1)
-power_same i h = power_beyond i h ∙ sym (power_beyond (i + 1) (omega arith))
+-- what is rounded, for every code and every factor whose entry is within the table
+pub products : (powers : List ℕ) (factor code : ℕ) → IsPowerTable powers × (factor < 374 * 2 ^ 40) → code < 2 ^ 16
+    → factor % 2 ^ 40 * (2 * (code % 256) + 1) * get_or powers (code / 256 + factor / 2 ^ 40) 0 ≤ 2 ^ 40 * 511 * 2 ^ 11
+products powers factor code given small =
+    mul-le-mul {m₂ = 2 ^ 11} (mul-le-mul {n₂ = 2 ^ 40} {m₂ = 511} (omega arith) (omega arith))
+    (rw got (power_most (code / 256 + factor / 2 ^ 40)))
+  where
+    got : get_or powers (code / 256 + factor / 2 ^ 40) 0 ≡ power_at (code / 256 + factor / 2 ^ 40)
+    got = given.0.entry (code / 256 + factor / 2 ^ 40) (omega arith)

@@ -138,7 +138,7 @@ module _ (v e s : ℕ) (value : (257 ≤ v) × (v ≤ 511)) where
       }
 
 -- either, in units of 2^(l − 137), of which 2^(137 − l) are 1
-pub in_units : (v e l one part : ℕ) → (257 ≤ v) × (v ≤ 511) → (114 ≤ e) × (e ≤ 152) → l ≡ min 137 e
+pub in_units : (v e l one part : ℕ) → (257 ≤ v) × (v ≤ 511) → (114 ≤ e) × (e ≤ 152) → l ≡ min e 137
     → one ≡ 1 * 2 ^ (137 - l) → part ≡ v * 2 ^ (e - l) → IsQuotient part one l
 in_units v e l one part value h m = by (dec_le 137 e)
   where
@@ -155,7 +155,7 @@ in_units v e l one part value h m = by (dec_le 137 e)
         let whole : part ≡ v = q ∙ rw none (omega arith) in
         subst (λ (z : ℕ). IsQuotient z one e) (sym whole) (below_one v e one value o (h.0, omega arith)))
 
-pub same_units : (v e l part : ℕ) → l ≡ min 137 e → part ≡ v * 2 ^ (e - l) → part * 2 ^ l ≡ v * 2 ^ e
+pub same_units : (v e l part : ℕ) → l ≡ min e 137 → part ≡ v * 2 ^ (e - l) → part * 2 ^ l ≡ v * 2 ^ e
 same_units v e l part m q =
     ap (λ (z : ℕ). z * 2 ^ l) q ∙ mul_assoc v (2 ^ (e - l)) (2 ^ l) ∙ ap (λ (z : ℕ). v * z) (power_difference e l (omega arith))
 

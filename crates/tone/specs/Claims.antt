@@ -2,16 +2,13 @@
 -- that no half is rounded below 255, and the second half of demand 3, a level against the exact value. Assumes nothing.
 -- Proved as `is_scaled` (proofs/Scaled.antt), `dark_is_itself`, `bright_is_white` (proofs/Displays.antt), `white_is_one`
 -- (proofs/Curves.antt), `no_half` (proofs/Halves.antt), `steps_store` and `level_bound` (proofs/PixelBounds.antt).
-use Rattle.std.specs.Prelude.{◌≡◌, true, ◌⊎◌, ℕ, ◌+◌, ◌*◌, ◌≤◌, ◌<◌, min}
+use Rattle.std.specs.Prelude.{◌≡◌, true, ◌⊎◌, ℕ, ◌+◌, ◌*◌, ◌≤◌, ◌<◌, min, None, Some}
 use Rattle.number.proofs.Laws.{Frac, ◌over◌, ◌·◌, ◌÷◌, ◌times◌, Equal, IsMantissa, Stores, stored_worth, worth_of}
 use Rattle.number.specs.declared.channel.Channel.{Channel}
 use Rattle.number.specs.declared.channel.Channel.TheVariants.{Lit}
 use Rattle.number.specs.declared.channel.Pixel.{Pixel}
 use Rattle.number.specs.declared.ratio.Stored.{Stored}
 use Rattle.luminance.specs.Pixels.{IsPixel, exact_luminance, luminance_of, IsLuminance}
-use Rattle.luminance.specs.declared.pixel.Luminance.{Luminance}
-use Rattle.white.specs.declared.White.{White}
-use Rattle.white.specs.declared.White.TheVariants.{Absent}
 use Rattle.white.specs.Whites.{white_fits}
 use Rattle.tone.specs.declared.tone.Tone.{Tone}
 use Rattle.tone.specs.Levels.{
@@ -24,6 +21,7 @@ use Rattle.tone.specs.Levels.{
   display_under,
   mapped_level,
 }
+use Rattle.white.specs.Whites.{White}
 
 -- ---- the scaled luminance, under every key and stored average: "E is 1 to 246."
 
@@ -47,7 +45,7 @@ pub record StoredSteps (t : Tone) (p : Pixel) (y : Stored) : Type 0 where
   pub display : StoredAs (curve_of t.white (stored_worth (scaled_of t y))) (display_under t y)
 
 abbrev pub StepsStore : Type 0
-StepsStore = (p : Pixel) → IsPixel p → (y : Stored) → luminance_of p ≡ Luminance.Lit y → (t : Tone) → IsTone t → StoredSteps t p y
+StepsStore = (p : Pixel) → IsPixel p → (y : Stored) → luminance_of p ≡ Some y → (t : Tone) → IsTone t → StoredSteps t p y
 
 -- ---- step 5 by source document 004's cases (2026-04): "E below 114, E above 152, and between. Below, the outcome is the stored scaled
 -- luminance itself; above, it is (128,255); both are proved as laws of step 5's own rule."
@@ -59,7 +57,7 @@ DarkIsItself = (w : White) → white_fits w ≡ true → (l : Stored) → l.expo
 -- "The outcome (128,255) of 2026-04 is then for strips without the word only." (2026-05)
 abbrev pub BrightIsWhite : Type 0
 BrightIsWhite = (l : Stored) → 152 < l.exponent → IsMantissa l.mantissa
-    → display_of (curve_of Absent) l ≡ record { exponent = 128; mantissa = 255 }
+    → display_of (curve_of None) l ≡ record { exponent = 128; mantissa = 255 }
 
 -- ---- the white point w = W/10 is what display luminance 1 comes from
 
@@ -105,5 +103,5 @@ c of_pixel p = (c ≡ p.red) ⊎ (c ≡ p.green) ⊎ (c ≡ p.blue)
 
 -- for each channel of every lit pixel, under every key, stored average and white point
 abbrev pub LevelIsBounded : Type 0
-LevelIsBounded = (p : Pixel) → IsPixel p → (y : Stored) → luminance_of p ≡ Luminance.Lit y → (c : Channel) → c of_pixel p
+LevelIsBounded = (p : Pixel) → IsPixel p → (y : Stored) → luminance_of p ≡ Some y → (c : Channel) → c of_pixel p
     → (t : Tone) → IsTone t → LevelBound t p c (mapped_level t y c)

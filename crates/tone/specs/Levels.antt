@@ -1,13 +1,12 @@
 -- Steps 4 to 6: scaled luminance, display luminance, level. Assumes nothing.
-use Rattle.std.specs.Prelude.{ℕ, ◌+◌, ◌*◌, ◌/◌, ◌≤◌, min, ◌≡◌, true}
+use Rattle.std.specs.Prelude.{ℕ, ◌+◌, ◌*◌, ◌/◌, ◌≤◌, min, ◌≡◌, true, None, Some}
 use Rattle.number.proofs.Laws.{Frac, ◌over◌, ◌·◌, ◌÷◌, ◌times◌, stored_worth, worth_of, stored_of}
 use Rattle.number.specs.declared.channel.Channel.{Channel}
 use Rattle.number.specs.declared.ratio.Stored.{Stored}
 use Rattle.average.specs.Averages.{IsStoredAverage}
-use Rattle.white.specs.declared.White.{White}
-use Rattle.white.specs.declared.White.TheVariants.{Absent, Tenths}
 use Rattle.white.specs.Whites.{white_fits}
 use Rattle.tone.specs.declared.tone.Tone.{Tone}
+use Rattle.white.specs.Whites.{White}
 
 -- "K is 0 or above 1,000" is refused
 pub record IsKey (K : ℕ) : Type 0 where
@@ -38,8 +37,8 @@ white_point W L = L.num * (W * W * L.den + 100 * L.num) over W * W * L.den * (L.
 
 -- the curve of a page: "without it nothing differs"
 abbrev pub curve_of : White → Frac → Frac
-curve_of Absent = reinhard
-curve_of (Tenths W) = white_point W
+curve_of None = reinhard
+curve_of (Some W) = white_point W
 
 -- "Display luminance: L/(1+L) over the decoded L, stored": so with `reinhard` for the curve, which is a parameter
 abbrev pub display_of : (curve : Frac → Frac) → Stored → Stored

@@ -4,42 +4,40 @@ ghost use Rattle.tone.specs.loops.Factors.{reciprocal_of, offset_of, factor_by, 
 
 use number::ratio::Stored;
 
-// 2^40. A factor is its offset times this, plus its scale.
+// 2^40. A factor is its offset times this, plus its scale. One number, since a table of 15,232 is kept, in which 0 stands for none yet.
 const OFFSET_UNIT: u64 = 1099511627776;
 
 // 2^46. A level is a scale times a channel's value times a power, over this.
 const LEVEL_UNIT: u64 = 70368744177664;
 
-// The power at the index behind i.
-#[tactic(auto, using(crate::proofs::Powers::power_most, crate::proofs::Powers::power_doubled, crate::proofs::Powers::power_same))]
-fn next_power(i: usize, power: u64) -> u64
-    requires { (374 ≤ i) × (power ≡ power_at i) }
-    ensures { result ≡ power_at (i + 1) }
+// The power of two at an offset plus a channel exponent.
+#[tactic(auto, unfolding(crate::specs::loops::Factors::power_at))]
+fn power_at(i: usize) -> u64
+    ensures { result ≡ power_at i }
 {
-    if i < 385 { 2 * power } else { power }
+    if i < 374 { 0 } else { 1 << (i.min(385) - 374) }
 }
 
-// The powers of two by offset plus channel exponent.
+// The powers of all of them: those below 374 stay 0. A loop, as the other tables: by `array::from_fn` the proof did not close.
 pub fn power_table() -> [u64; 640]
     ensures { IsPowerTable result }
 {
     let mut powers = [0; 640];
-    let mut power = 1;
-    let mut i = 374;
-    while i < 640 {
-        powers[i] = power;
-        power = next_power(i, power);
-        i += 1;
+    for i in 374..640 {
+        powers[i] = power_at(i);
     }
     powers
 }
+
+// 2^28. Every reciprocal is below.
+const RECIPROCAL_UNIT: u64 = 268435456;
 
 // 255 / (2M + 1) in 28 binary places, rounded up.
 fn reciprocal(mantissa: u64) -> u64
     requires { mantissa ≤ 255 }
     ensures { result ≡ reciprocal_of mantissa }
 {
-    (255 * 268435456 + 2 * mantissa) / (2 * mantissa + 1)
+    (255 * RECIPROCAL_UNIT).div_ceil(2 * mantissa + 1)
 }
 
 // The reciprocals of the mantissas 128 to 255, at M - 128.
@@ -47,10 +45,8 @@ pub fn reciprocal_table() -> [u64; 128]
     ensures { IsReciprocalTable result }
 {
     let mut reciprocals = [0; 128];
-    let mut k = 0;
-    while k < 128 {
-        reciprocals[k] = reciprocal(128 + k as u64);
-        k += 1;
+    for (k, entry) in reciprocals.iter_mut().enumerate() {
+        *entry = reciprocal(128 + k as u64);
     }
     reciprocals
 }
@@ -60,11 +56,8 @@ fn offset(display: Stored, luminance: Stored) -> u64
     ensures { result ≡ offset_of display luminance }
 {
     let difference = display.exponent as u64 + 255 - luminance.exponent as u64;
-    if difference < 373 { difference } else { 373 }
+    difference.min(373)
 }
-
-// 2^28. Every reciprocal is below.
-const RECIPROCAL_UNIT: u64 = 268435456;
 
 // The factor of a luminance and its display luminance: what step 6 needs of both.
 #[tactic(auto, unfolding(crate::specs::loops::Factors::factor_by))]
@@ -78,7 +71,7 @@ pub fn factor(reciprocals: &[u64; 128], display: Stored, luminance: Stored) -> u
 
 // Step 6 up to its limit: the level of a channel, given by its code, in a pixel with this factor, before 255 is taken for more. A factor of
 // scale 0 gives level 0.
-#[tactic(auto, unfolding(crate::specs::loops::Factors::wide_level))]
+#[tactic(auto, using(crate::proofs::Powers::products), unfolding(crate::specs::loops::Factors::wide_level))]
 pub fn wide_level(powers: &[u64; 640], factor: u64, code: u16) -> u16
     requires { IsPowerTable powers.now × (factor < 374 * 2 ^ 40) }
     ensures { result ≡ wide_level factor code }
@@ -94,5 +87,5 @@ pub fn wide_level(powers: &[u64; 640], factor: u64, code: u16) -> u16
 pub fn at_most_255(level: u16) -> u8
     ensures { result ≡ min 255 level }
 {
-    if level < 255 { level as u8 } else { 255 }
+    level.min(255) as u8
 }

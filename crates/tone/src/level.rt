@@ -1,7 +1,6 @@
 // Steps 4 and 5: scaled luminance and display luminance.
-ghost use Rattle.std.specs.Prelude.{◌≡◌, true, ◌*◌, ◌^◌, ◌≤◌, ◌<◌, min};
+ghost use Rattle.std.specs.Prelude.{◌≡◌, Some, true, ◌*◌, ◌^◌, ◌≤◌, ◌<◌, min};
 ghost use Rattle.number.proofs.Laws.{◌over◌, IsMantissa, unit, stored_of};
-ghost use Rattle.white.specs.declared.White.{White};
 ghost use Rattle.white.specs.Whites.{white_fits};
 ghost use Rattle.tone.specs.Levels.{IsTone, scaled_of, reinhard, white_point, curve_of, display_of, display_under};
 ghost use Rattle.tone.specs.Claims.{IsScaled};
@@ -12,7 +11,6 @@ ghost use Rattle.luminance.specs.Pixels.{IsLuminance};
 use crate::tone::Tone;
 use luminance::ratio::stored_ratio;
 use number::ratio::Stored;
-use white::White;
 
 // Step 4: K/1000 times luminance over average.
 fn scaled_luminance(tone: Tone, luminance: Stored) -> Stored
@@ -72,6 +70,7 @@ fn plain_display(scaled: Stored) -> Stored
     divided(2 * (scaled.mantissa as u64) + 1, scaled.exponent as u64)
 }
 
+// The cases of a white point take `tenths`, a value and an exponent: each has other limits, which a struct of the three would not hold.
 // L(1 + L/w^2) / (1 + L) of L = part / one, where `one` is 1 in units of 2^(exponent - 137), divided in 64-bit numbers.
 fn white_quotient(tenths: u64, part: u64, one: u64, exponent: u64) -> Stored
     requires { (10 ≤ tenths) × (tenths ≤ 1000) × IsQuotient part one exponent }
@@ -85,20 +84,13 @@ fn white_quotient(tenths: u64, part: u64, one: u64, exponent: u64) -> Stored
     )
 }
 
-// The lesser of an exponent and 137, from which on L is whole.
-fn up_to_137(exponent: u64) -> u64
-    ensures { result ≡ min 137 exponent }
-{
-    if exponent < 137 { exponent } else { 137 }
-}
-
 // The same of L = value * 2^exponent units of 2^-137, in the middle case: up to exponent 136 in units of which L is
 // `value`, from 137 on in ones.
 fn white_divided(tenths: u64, value: u64, exponent: u64) -> Stored
     requires { (10 ≤ tenths) × (tenths ≤ 1000) × (257 ≤ value) × (value ≤ 511) × (114 ≤ exponent) × (exponent ≤ 152) }
     ensures { result ≡ stored_of (white_point tenths (value * 2 ^ exponent over unit)) }
 {
-    let units = up_to_137(exponent);
+    let units = exponent.min(137);
     let part = shift_left(value, exponent - units);
     let one = shift_left(1, 137 - units);
     white_quotient(tenths, part, one, units)
@@ -132,7 +124,7 @@ fn white_far(tenths: u64, value: u64, exponent: u64) -> Stored
 // point 1, L(1 + L) / (1 + L) is L itself.
 #[tactic(auto, using(white::proofs::Limits::white_limits))]
 fn white_display(tenths: u64, scaled: Stored) -> Stored
-    requires { (white_fits (White.Tenths tenths) ≡ true) × IsScaled scaled }
+    requires { (white_fits (Some tenths) ≡ true) × IsScaled scaled }
     ensures { result ≡ display_of (white_point tenths) scaled }
 {
     let exponent = scaled.exponent as u64;
@@ -152,14 +144,15 @@ fn white_display(tenths: u64, scaled: Stored) -> Stored
     white_far(tenths, value, exponent)
 }
 
-// Step 5: the display luminance by the curve of the page.
-fn display_luminance(white: White, scaled: Stored) -> Stored
+// Step 5: the display luminance by the curve of the page. `IsScaled` and `white_fits` stay premises: a type for them would be made once and
+// opened at once.
+fn display_luminance(white: Option<u64>, scaled: Stored) -> Stored
     requires { (white_fits white ≡ true) × IsScaled scaled }
     ensures { result ≡ display_of (curve_of white) scaled }
 {
     match white {
-        White::Absent => plain_display(scaled),
-        White::Tenths(tenths) => white_display(tenths, scaled),
+        None => plain_display(scaled),
+        Some(tenths) => white_display(tenths, scaled),
     }
 }
 
@@ -174,22 +167,20 @@ fn scaled_code(tone: Tone, mantissa: u8) -> u16
 {
     let luminance = Stored {
         exponent: TABLE_EXPONENT,
-        mantissa: mantissa,
+        mantissa,
     };
     let scaled = scaled_luminance(tone, luminance);
     256 * (scaled.exponent as u16) + scaled.mantissa as u16
 }
 
-// The codes of the mantissas 128 to 255, at M - 128.
+// The codes of the mantissas 128 to 255, at M - 128. Codes and not `Stored`s: `IsScaledTable`, which callers are promised, is of numbers.
 pub fn scaled_table(tone: Tone) -> [u16; 128]
     requires { IsTone tone }
     ensures { IsScaledTable tone result }
 {
     let mut codes = [0; 128];
-    let mut k: usize = 0;
-    while k < 128 {
-        codes[k] = scaled_code(tone, (128 + k) as u8);
-        k += 1;
+    for (k, code) in codes.iter_mut().enumerate() {
+        *code = scaled_code(tone, (128 + k) as u8);
     }
     codes
 }
@@ -205,6 +196,5 @@ pub fn display_by(codes: &[u16; 128], tone: Tone, luminance: Stored) -> Stored
         exponent: (code / 256 + luminance.exponent as u16 - TABLE_EXPONENT as u16) as u8,
         mantissa: (code % 256) as u8,
     };
-    let white = tone.white;
-    display_luminance(white, scaled)
+    display_luminance(tone.white, scaled)
 }

@@ -4,13 +4,6 @@
 ghost use Rattle.std.specs.Prelude.{◌≡◌};
 ghost use Rattle.white.specs.Whites.{tenths_fit, white_fits, same_white};
 
-// The white point of a page: none, or W, which is ten times it.
-#[derive(Clone, Copy)]
-pub enum White {
-    Absent,
-    Tenths(u64),
-}
-
 const LEAST_TENTHS: u64 = 10;
 
 const MOST_TENTHS: u64 = 1000;
@@ -20,36 +13,21 @@ const MOST_TENTHS: u64 = 1000;
 pub fn tenths_fit(tenths: u64) -> bool
     ensures { result ≡ tenths_fit tenths }
 {
-    if tenths < LEAST_TENTHS {
-        return false;
-    }
-    tenths <= MOST_TENTHS
+    LEAST_TENTHS <= tenths && tenths <= MOST_TENTHS
 }
 
-// Whether a page may have this white point.
+// Whether a page may have this white point: none, or W, which is ten times the white point.
 #[tactic(auto, unfolding(crate::specs::Whites::white_fits))]
-pub fn white_fits(white: White) -> bool
+pub fn white_fits(white: Option<u64>) -> bool
     ensures { result ≡ white_fits white }
 {
-    match white {
-        White::Absent => true,
-        White::Tenths(tenths) => tenths_fit(tenths),
-    }
+    white.is_none_or(tenths_fit)
 }
 
-// Whether two pages have the same white point, or both none.
+// Whether two pages have the same white point, or both none: the rule has this name.
 #[tactic(auto, unfolding(crate::specs::Whites::same_white))]
-pub fn same_white(a: White, b: White) -> bool
+pub fn same_white(a: Option<u64>, b: Option<u64>) -> bool
     ensures { result ≡ same_white a b }
 {
-    match a {
-        White::Absent => match b {
-            White::Absent => true,
-            White::Tenths(_) => false,
-        },
-        White::Tenths(first) => match b {
-            White::Absent => false,
-            White::Tenths(second) => first == second,
-        },
-    }
+    a == b
 }

@@ -1,10 +1,6 @@
 -- The kinds of a block's words. Assumes nothing.
-use Prim.Native.Nat.{ℕ, ◌+◌, ◌*◌, ◌/◌, ◌%◌, ◌<◌}
-use mathlib.Core.Path.{◌≡◌, ap, ◌∙◌}
-use mathlib.Core.List.{List}
+use Rattle.std.proofs.Common.{ℕ, ◌+◌, ◌*◌, ◌/◌, ◌%◌, ◌<◌, ◌≡◌, ap, ◌∙◌, List, arith, get_or}
 use native.Mathlib.Nat.{mul-add-mod_self_left}
-use native.Mathlib.Omega.{arith}
-use lib.ListN.{get_or}
 use Rattle.word.specs.Words.{channel_word}
 use Rattle.word.specs.loops.Kinds.{IsKinds}
 

@@ -1,37 +1,31 @@
 -- What an accepted channel word is. Assumes nothing.
-use Prim.Native.Nat.{ℕ, ◌^◌, ◌<◌}
-use mathlib.Core.Path.{◌≡◌, refl}
-use mathlib.Core.List.{List, [], ◌∷◌, map}
-use mathlib.Core.Bool.{Bool, true, false, cond}
-use lib.Dec.{eqb}
-use native.Mathlib.Omega.{arith}
-use borrow.Author.Tests.{eqb-true, eq-eqb}
+use Rattle.std.proofs.Common.{ℕ, ◌^◌, ◌<◌, ◌≡◌, refl, List, [], ◌∷◌, map, Bool, true, false, cond, eqb, arith, eqb-true, eq-eqb}
 use Rattle.number.specs.declared.channel.Channel.{Channel}
 use Rattle.number.specs.declared.channel.Channel.TheVariants.{Black, Lit}
-use Rattle.number.specs.declared.channel.Decoded.{Decoded}
-use Rattle.number.specs.declared.channel.Decoded.TheVariants.{Holds, Refuses}
 use Rattle.number.specs.Channels.{IsChannel, code_of, channel_of_code, channel_in}
 use Rattle.number.proofs.Laws.{Coded, channel_code, code_channel_law}
 use Rattle.refusal.specs.declared.Refusal.TheVariants.{UnexpectedWord}
-use Rattle.refusal.specs.declared.Verdict.TheVariants.{Accepted}
 use Rattle.refusal.proofs.Laws.{and_passed}
 use Rattle.word.specs.Words.{channel_word}
 use Rattle.word.specs.Fields.{low16, decode_word}
 use Rattle.word.specs.Placing.{Placed, verdict_at, first_refusal, decoded_of, channels_of}
+use Rattle.std.specs.Prelude.{Err, Ok}
+use Rattle.number.specs.Channels.{Decoded}
+use Rattle.refusal.specs.Verdicts.{accepted}
 
 -- what is accepted holds its channel
-pub holds : (i : ℕ) (d : Decoded) → verdict_at i d ≡ Accepted → d ≡ Holds (channel_in d)
-holds i (Holds c) e = refl
-holds i (Refuses r) e = cc
+pub holds : (i : ℕ) (d : Decoded) → verdict_at i d ≡ accepted → d ≡ Ok (channel_in d)
+holds i (Ok c) e = refl
+holds i (Err r) e = cc
 
 -- every one of an accepted row does
-pub all_held : (ps : List Placed) → first_refusal ps ≡ Accepted → map Holds (channels_of ps) ≡ decoded_of ps
+pub all_held : (ps : List Placed) → first_refusal ps ≡ accepted → map Ok (channels_of ps) ≡ decoded_of ps
 all_held [] e = refl
 all_held (p ∷ ps) e =
     let q = and_passed _ _ e in
     rw (← holds _ p.decoded q.0, all_held ps q.1)
 
-kind_read : (b : Bool) (d : Decoded) (c : Channel) → cond b d (Refuses UnexpectedWord) ≡ Holds c → (b ≡ true) × (d ≡ Holds c)
+kind_read : (b : Bool) (d : Decoded) (c : Channel) → cond b d (Err UnexpectedWord) ≡ Ok c → (b ≡ true) × (d ≡ Ok c)
 kind_read true d c e = (refl, e)
 kind_read false d c e = (cc, cc)
 
@@ -40,7 +34,7 @@ pub record IsWord (k w : ℕ) (c : Channel) : Type 0 where
   pub written : w ≡ channel_word k (low16 w)
   pub coded : Coded (low16 w) c
 
-pub is_word : (k w : ℕ) {c : Channel} → decode_word k w ≡ Holds c → IsWord k w c
+pub is_word : (k w : ℕ) {c : Channel} → decode_word k w ≡ Ok c → IsWord k w c
 unfolding decode_word
 is_word k w e =
     let q = kind_read (eqb w (channel_word k (low16 w))) (channel_of_code (low16 w)) _ e in
@@ -52,7 +46,7 @@ code_small Black t = omega arith
 code_small (Lit E M) t = omega (arith, t.most, t.mantissa.most)
 
 -- the word that a channel is written as is read as that channel
-pub word_read : (k : ℕ) (c : Channel) → IsChannel c → decode_word k (channel_word k (code_of c)) ≡ Holds c
+pub word_read : (k : ℕ) (c : Channel) → IsChannel c → decode_word k (channel_word k (code_of c)) ≡ Ok c
 unfolding decode_word
 word_read k c t =
     let small = code_small c t in

@@ -1,17 +1,11 @@
 -- What an accepted size and key keep to, and where the channel words begin. Assumes nothing.
-use Prim.Native.Nat.{ℕ, ◌*◌, ◌≤◌}
-use mathlib.Core.Path.{◌≡◌}
-use mathlib.Core.Bool.{true}
-use native.Mathlib.Nat.{mul-le-mul, mul-le-mul_left}
-use native.Mathlib.Omega.{arith}
-use borrow.Author.Tests.{leb-true, le-leb}
-use lib.ListN.{length}
-use Rattle.white.specs.declared.White.{White}
-use Rattle.white.specs.declared.White.TheVariants.{Absent, Tenths}
+use Rattle.std.proofs.Common.{ℕ, ◌*◌, ◌≤◌, ◌≡◌, true, mul-le-mul, mul-le-mul_left, arith, leb-true, le-leb, length}
 use Rattle.white.proofs.Limits.{both_true}
 use Rattle.word.specs.declared.header.Header.{Header}
 use Rattle.word.specs.Words.{size_fits, key_fits, white_words, body_start}
 use Rattle.word.specs.Fields.{width_in, height_in}
+use Rattle.std.specs.Prelude.{None, Some}
+use Rattle.white.specs.Whites.{White}
 
 pub record Sized (w h : ℕ) : Type 0 where
   pub wide : 1 ≤ w
@@ -76,5 +70,5 @@ pub head_short : (h : Header) → body_start h ≤ 3
 head_short h = omega (arith, by h.white)
   where
     by : (w : White) → length (white_words w) ≤ 1
-    by Absent = omega arith
-    by (Tenths W) = omega arith
+    by None = omega arith
+    by (Some W) = omega arith

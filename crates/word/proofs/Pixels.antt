@@ -1,14 +1,9 @@
 -- Laws of the pixels that words stand for. Assumes nothing.
-use Prim.Native.Nat.{ℕ, zero, suc, ◌+◌, ◌*◌, ◌/◌, ◌%◌, ◌≤◌, ◌<◌}
-use mathlib.Core.Path.{◌≡◌, refl, sym, ap, ◌∙◌}
-use mathlib.Core.List.{List, [], ◌∷◌, ◌++◌, map, map-append}
-use native.Mathlib.Numerals.{add-one}
-use native.Mathlib.Omega.{arith}
-use lib.ListN.{length, get_or, take, drop, length-drop, length-map, take-append-drop, get_or-map}
-use lib.Seq.{take-suc, drop-cons, length-take-le, take_at, drop_at}
+use Rattle.std.proofs.Common.{ℕ, zero, suc, ◌+◌, ◌*◌, ◌/◌, ◌%◌, ◌≤◌, ◌<◌, ◌≡◌, refl, sym, ap, ◌∙◌, List, [], ◌∷◌, ◌++◌, map, add-one, arith, length, get_or, take, drop, length-drop, take-append-drop, take-suc, drop-cons, length-take-le, take_at, drop_at}
+use mathlib.Core.List.{map-append}
+use lib.ListN.{length-map, get_or-map}
 use Rattle.number.specs.declared.channel.Channel.{Channel}
 use Rattle.number.specs.declared.channel.Channel.TheVariants.{Black}
-use Rattle.number.specs.declared.channel.Decoded.TheVariants.{Holds}
 use Rattle.number.specs.declared.channel.Pixel.{Pixel}
 use Rattle.number.specs.Channels.{channel_of_code}
 use Rattle.number.proofs.Laws.{IsChannel, code_channel_law, code_valid}
@@ -16,6 +11,7 @@ use Rattle.word.specs.Fields.{low16, decode_word}
 use Rattle.word.specs.Pixels.{pixel_of, pixels_of, word_channel, word_pixels}
 use Rattle.word.specs.loops.Walks.{pixel_at}
 use Rattle.word.proofs.Decoding.{is_word}
+use Rattle.std.specs.Prelude.{Ok}
 
 -- ---- channels by threes
 
@@ -48,7 +44,7 @@ pixels_append (r ∷ g ∷ b ∷ cs) ds h = rw (pixels_append cs ds (omega arith
 -- ---- the channels of words
 
 -- the channel of an accepted word
-pub word_channel_law : (k w : ℕ) {c : Channel} → decode_word k w ≡ Holds c → word_channel w ≡ c
+pub word_channel_law : (k w : ℕ) {c : Channel} → decode_word k w ≡ Ok c → word_channel w ≡ c
 word_channel_law k w {c} e =
     let q = (is_word k w e).coded in
     rw (← q.code, code_channel_law c q.valid)

@@ -1,17 +1,9 @@
 -- Loops over a row: one that checks each element, one that stores each. Assumes nothing.
-use Prim.Native.Nat.{ℕ, suc, ◌+◌, ◌<◌, ◌≤◌}
-use mathlib.Core.Path.{◌≡◌, refl, sym, ap, ◌∙◌}
-use mathlib.Core.List.{List, [], ◌∷◌, ◌++◌, append-nil}
-use native.Mathlib.Numerals.{add-one}
-use native.Mathlib.Omega.{arith}
-use lib.ListN.{length, get_or, set, drop, length-set, length-map, drop_of_length-le}
-use lib.Seq.{drop-cons, sets}
+use Rattle.std.proofs.Common.{ℕ, suc, ◌+◌, ◌<◌, ◌≤◌, ◌≡◌, refl, sym, ap, ◌∙◌, List, [], ◌∷◌, ◌++◌, append-nil, add-one, arith, length, get_or, set, drop, length-set, drop_of_length-le, drop-cons}
+use lib.ListN.{length-map}
+use lib.Seq.{sets}
 use Rattle.number.specs.declared.channel.Channel.{Channel}
-use Rattle.number.specs.declared.channel.Decoded.{Decoded}
-use Rattle.number.specs.declared.channel.Decoded.TheVariants.{Holds, Refuses}
-use Rattle.refusal.specs.declared.Refusal.{Refusal}
-use Rattle.refusal.specs.declared.Verdict.{Verdict}
-use Rattle.refusal.specs.declared.Verdict.TheVariants.{Accepted}
+use Rattle.refusal.specs.declared.Fault.{Fault}
 use Rattle.refusal.specs.Verdicts.{and_then}
 use Rattle.refusal.proofs.Laws.{and_assoc}
 use Rattle.refusal.proofs.Outputs.{sets_front}
@@ -19,6 +11,9 @@ use Rattle.number.specs.Channels.{code_of, channel_in}
 use Rattle.word.specs.Words.{channel_word, body_words}
 use Rattle.word.specs.Placing.{Placed, placed, verdict_at, first_refusal, channels_of}
 use Rattle.word.specs.loops.Walks.{writing}
+use Rattle.std.specs.Prelude.{Err}
+use Rattle.number.specs.Channels.{Decoded}
+use Rattle.refusal.specs.Verdicts.{Verdict, accepted}
 
 -- ---- A loop that checks: at each turn the verdict on the elements that are left, from number i on, is that on all.
 
@@ -35,15 +30,15 @@ module _ (f : ℕ → ℕ → Decoded) (start : ℕ) (xs : List ℕ) (i : ℕ) {
     unfolding checking
     step = rw (add-one i, drop-cons xs i 0 inside, decoded)
 
-    pub checking_next : {c : Channel} → d ≡ Holds c → checking f start xs (i + 1) ≡ all
+    pub checking_next : verdict_at (start + i) d ≡ accepted → checking f start xs (i + 1) ≡ all
     unfolding and_then
     checking_next told = rw told at (sym step ∙ inv)
 
-    pub checking_refused : {v : Verdict} {r : Refusal} {j : ℕ} → start + i ≡ j → v ≡ verdict_at j d → d ≡ Refuses r → v ≡ all
+    pub checking_refused : {x : Fault} → verdict_at (start + i) d ≡ Err x → Err x ≡ all
     unfolding and_then
-    checking_refused at₁ e told = rw (e, told, ← at₁) (rw told at (sym step ∙ inv))
+    checking_refused told = rw told at (sym step ∙ inv)
 
-  pub checking_done : length xs ≤ i → Accepted ≡ all
+  pub checking_done : length xs ≤ i → accepted ≡ all
   unfolding checking
   checking_done h = rw (drop_of_length-le xs h) at inv
 

@@ -1,12 +1,12 @@
 -- Channels as they stand in a row of elements or words, and the first that is refused. Assumes nothing.
 use Rattle.std.specs.Prelude.{ℕ, suc, ◌+◌, List, [], ◌∷◌, map}
 use Rattle.number.specs.declared.channel.Channel.{Channel}
-use Rattle.number.specs.declared.channel.Decoded.{Decoded}
-use Rattle.number.specs.declared.channel.Decoded.TheVariants.{Holds, Refuses}
 use Rattle.number.specs.Channels.{channel_in}
-use Rattle.refusal.specs.declared.Verdict.{Verdict}
-use Rattle.refusal.specs.declared.Verdict.TheVariants.{Accepted, Refused}
 use Rattle.refusal.specs.Verdicts.{and_then}
+use Rattle.std.specs.Prelude.{Err, Ok}
+use Rattle.refusal.specs.Faults.{◌found_at◌}
+use Rattle.number.specs.Channels.{Decoded}
+use Rattle.refusal.specs.Verdicts.{Verdict, accepted}
 
 -- what an element or word decodes to, and the index that its refusal names
 pub record Placed : Type 0 where
@@ -20,12 +20,12 @@ placed f start k [] = []
 placed f start k (x ∷ xs) = record { index = start + k; decoded = f k x } ∷ placed f start (suc k) xs
 
 abbrev pub verdict_at : (i : ℕ) → Decoded → Verdict
-verdict_at i (Holds c) = Accepted
-verdict_at i (Refuses r) = Refused r i
+verdict_at i (Ok c) = accepted
+verdict_at i (Err r) = Err (r found_at i)
 
 -- "elements in order", "words in order": the first that is refused decides
 abbrev pub first_refusal : List Placed → Verdict
-first_refusal [] = Accepted
+first_refusal [] = accepted
 first_refusal (p ∷ ps) = and_then (verdict_at p.index p.decoded) (first_refusal ps)
 
 abbrev pub decoded_of : List Placed → List Decoded

@@ -3,9 +3,9 @@
 use Rattle.std.specs.Prelude.{ℕ, suc, ◌+◌, ◌*◌, ◌%◌, ◌^◌, List, [], ◌∷◌, ◌++◌, Bool, ◌&&◌, leb, length}
 use Rattle.number.specs.declared.channel.Channel.{Channel}
 use Rattle.number.specs.Channels.{code_of}
-use Rattle.white.specs.declared.White.{White}
-use Rattle.white.specs.declared.White.TheVariants.{Absent, Tenths}
 use Rattle.word.specs.declared.header.Header.{Header}
+use Rattle.std.specs.Prelude.{None, Some}
+use Rattle.white.specs.Whites.{White}
 
 -- ---- the page
 
@@ -40,8 +40,8 @@ white_word W = word_of 3 W
 
 -- "Strips with the word are one longer"
 abbrev pub white_words : White → List ℕ
-white_words Absent = []
-white_words (Tenths W) = white_word W ∷ []
+white_words None = []
+white_words (Some W) = white_word W ∷ []
 
 abbrev pub head_words : Header → List ℕ
 head_words h = size_word h.width h.height ∷ key_word h.key ∷ white_words h.white

@@ -8,18 +8,16 @@ ghost use Rattle.number.specs.Channels.{decoded_told};
 ghost use Rattle.refusal.specs.Verdicts.{report_of};
 
 use crate::header::{Header, low_half};
-use number::channel::{Channel, Decoded, Pixel, code_to_channel};
-use refusal::{Refusal, Verdict};
-use white::White;
+use number::channel::{Channel, Pixel, code_to_channel};
+use refusal::{Fault, Refusal};
 
 // The index of the first channel word: size and key word stand before it, and the white word where there is one.
 pub fn body_start(header: Header) -> usize
     ensures { result ≡ body_start header }
 {
-    let white = header.white;
-    match white {
-        White::Absent => 2,
-        White::Tenths(_) => 3,
+    match header.white {
+        None => 2,
+        Some(_) => 3,
     }
 }
 
@@ -32,7 +30,7 @@ pub fn channel_word(k: usize, code: u16) -> u32
 
 // The channel that a word stands for as the word of channel k.
 #[tactic(auto, unfolding(crate::specs::Fields::decode_word))]
-pub fn decode_word(k: usize, word: u32) -> Decoded
+pub fn decode_word(k: usize, word: u32) -> Result<Channel, Refusal>
     ensures answer { result ≡ decode_word k word }
     ensures told { decoded_told result ≡ decoded_told (decode_word k word) }
 {
@@ -40,18 +38,18 @@ pub fn decode_word(k: usize, word: u32) -> Decoded
     if word == channel_word(k, code) {
         code_to_channel(code)
     } else {
-        Decoded::Refuses(Refusal::UnexpectedWord)
+        Err(Refusal::UnexpectedWord)
     }
 }
 
 // The verdict on what an element or word stands for; its index is i.
-pub fn verdict_at(i: usize, decoded: Decoded) -> Verdict
+pub fn verdict_at(i: usize, decoded: Result<Channel, Refusal>) -> Result<(), Fault>
     ensures verdict { result ≡ verdict_at i decoded }
     ensures outcome { report_of result ≡ report_of (verdict_at i decoded) }
 {
     match decoded {
-        Decoded::Holds(_) => Verdict::Accepted,
-        Decoded::Refuses(refusal) => Verdict::Refused(refusal, i),
+        Ok(_) => Ok(()),
+        Err(refusal) => Err(refusal.at(i)),
     }
 }
 
@@ -59,10 +57,7 @@ pub fn verdict_at(i: usize, decoded: Decoded) -> Verdict
 fn word_channel(word: u32) -> Channel
     ensures { result ≡ word_channel word }
 {
-    match code_to_channel(low_half(word)) {
-        Decoded::Holds(channel) => channel,
-        Decoded::Refuses(_) => Channel::Black,
-    }
+    code_to_channel(low_half(word)).unwrap_or(Channel::Black)
 }
 
 // The pixel of three accepted words.

@@ -4,8 +4,8 @@ ghost use Rattle.word.specs.Words.{size_fits, key_fits, size_word, key_word, whi
 ghost use Rattle.word.specs.Fields.{width_in, height_in, low16, white_in, check_size_word, check_key_word, check_white_word};
 ghost use Rattle.refusal.specs.Verdicts.{report_of};
 
-use refusal::{Refusal, Verdict};
-use white::{White, tenths_fit};
+use refusal::{Fault, Refusal, require};
+use white::tenths_fit;
 
 // Width, height, key and white point of a page: any numbers, and within the limits in an accepted strip.
 #[derive(Clone, Copy)]
@@ -13,7 +13,7 @@ pub struct Header {
     pub width: u64,
     pub height: u64,
     pub key: u64,
-    pub white: White,
+    pub white: Option<u64>,
 }
 
 const GREATEST_SIDE: u64 = 8192;
@@ -29,19 +29,11 @@ const WHITE_KIND: u32 = 3;
 pub fn size_fits(width: u64, height: u64) -> bool
     ensures { result ≡ size_fits width height }
 {
-    if width < 1 {
-        return false;
-    }
-    if GREATEST_SIDE < width {
-        return false;
-    }
-    if height < 1 {
-        return false;
-    }
-    if GREATEST_SIDE < height {
-        return false;
-    }
-    width * height <= MOST_PIXELS
+    1 <= width
+        && width <= GREATEST_SIDE
+        && 1 <= height
+        && height <= GREATEST_SIDE
+        && width * height <= MOST_PIXELS
 }
 
 // Whether a page may have this key.
@@ -49,10 +41,7 @@ pub fn size_fits(width: u64, height: u64) -> bool
 pub fn key_fits(key: u64) -> bool
     ensures { result ≡ key_fits key }
 {
-    if key < 1 {
-        return false;
-    }
-    key <= GREATEST_KEY
+    1 <= key && key <= GREATEST_KEY
 }
 
 // Width and height of a size word.
@@ -77,13 +66,13 @@ pub fn low_half(word: u32) -> u16
 
 // The white point that the third word of a strip stands for.
 #[tactic(auto, unfolding(crate::specs::Fields::white_in))]
-pub fn white_in(word: u32) -> White
+pub fn white_in(word: u32) -> Option<u64>
     ensures { result ≡ white_in word }
 {
     if word / 268435456 == WHITE_KIND {
-        White::Tenths(low_half(word) as u64)
+        Some(low_half(word) as u64)
     } else {
-        White::Absent
+        None
     }
 }
 
@@ -117,57 +106,39 @@ pub fn end_word(pixels: u32) -> u64
 
 // The verdict on the first word of a strip.
 #[tactic(auto, unfolding(crate::specs::Fields::check_size_word, refusal::specs::Verdicts::require))]
-pub fn check_size_word(word: u32) -> Verdict
+pub fn check_size_word(word: u32) -> Result<(), Fault>
     ensures verdict { result ≡ check_size_word word }
     ensures outcome { report_of result ≡ report_of (check_size_word word) }
 {
     let width = width_in(word);
     let height = height_in(word);
-    if word != size_word(width, height) {
-        return Verdict::Refused(Refusal::UnexpectedWord, 0);
-    }
-    if size_fits(width as u64, height as u64) {
-        Verdict::Accepted
-    } else {
-        Verdict::Refused(Refusal::BadSize, 0)
-    }
+    require(word == size_word(width, height), Refusal::UnexpectedWord, 0)?;
+    require(size_fits(width as u64, height as u64), Refusal::BadSize, 0)
 }
 
 // The verdict on the second word of a strip.
 #[tactic(auto, unfolding(crate::specs::Fields::check_key_word, refusal::specs::Verdicts::require))]
-pub fn check_key_word(word: u32) -> Verdict
+pub fn check_key_word(word: u32) -> Result<(), Fault>
     ensures verdict { result ≡ check_key_word word }
     ensures outcome { report_of result ≡ report_of (check_key_word word) }
 {
     let key = low_half(word);
-    if word != key_word(key) {
-        return Verdict::Refused(Refusal::UnexpectedWord, 1);
-    }
-    if key_fits(key as u64) {
-        Verdict::Accepted
-    } else {
-        Verdict::Refused(Refusal::BadKey, 0)
-    }
+    require(word == key_word(key), Refusal::UnexpectedWord, 1)?;
+    require(key_fits(key as u64), Refusal::BadKey, 0)
 }
 
 // The verdict on the third word of a strip, if it is a white word.
 #[tactic(auto, unfolding(crate::specs::Fields::check_white_word, refusal::specs::Verdicts::require))]
-pub fn check_white_word(word: u32) -> Verdict
+pub fn check_white_word(word: u32) -> Result<(), Fault>
     ensures verdict { result ≡ check_white_word word }
     ensures outcome { report_of result ≡ report_of (check_white_word word) }
 {
     if word / 268435456 != WHITE_KIND {
-        return Verdict::Accepted;
+        return Ok(());
     }
     let tenths = low_half(word);
-    if word != white_word(tenths) {
-        return Verdict::Refused(Refusal::UnexpectedWord, 2);
-    }
-    if tenths_fit(tenths as u64) {
-        Verdict::Accepted
-    } else {
-        Verdict::Refused(Refusal::BadWhite, 0)
-    }
+    require(word == white_word(tenths), Refusal::UnexpectedWord, 2)?;
+    require(tenths_fit(tenths as u64), Refusal::BadWhite, 0)
 }
 
 // The pixels that a size word declares.

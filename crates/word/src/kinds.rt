@@ -7,14 +7,8 @@ use crate::body::channel_word;
 pub const BLOCK_WORDS: usize = 48;
 
 // The kinds of a block's words, each the word of a black channel.
-pub fn block_kinds() -> [u32; 48]
+pub fn block_kinds() -> [u32; BLOCK_WORDS]
     ensures { IsKinds result }
 {
-    let mut kinds = [0u32; 48];
-    let mut j: usize = 0;
-    while j < BLOCK_WORDS {
-        kinds[j] = channel_word(j, 0);
-        j += 1;
-    }
-    kinds
+    std::array::from_fn(|j| channel_word(j, 0))
 }

@@ -1,12 +1,11 @@
 -- Sums of steps, and what an average and a join rest on. Assumes nothing.
-use Rattle.std.specs.Prelude.{List, [], ◌∷◌, ℕ, ◌+◌, ◌*◌, ◌^◌, ◌≤◌, ◌<◌, ℤ, pos, neg_ℤ, ◌≤ℤ◌}
+use Rattle.std.specs.Prelude.{List, [], ◌∷◌, ℕ, ◌+◌, ◌*◌, ◌^◌, ◌≤◌, ◌<◌, ℤ, pos, neg_ℤ, ◌≤ℤ◌, None, Option, Some}
 use Rattle.number.proofs.Laws.{IsMantissa}
 use Rattle.number.specs.declared.ratio.Stored.{Stored}
 use Rattle.average.specs.Averages.{floor_div, IsAverage}
 use Rattle.average.specs.Tables.{log_of}
-use Rattle.average.specs.declared.tally.Extremes.{Extremes}
-use Rattle.average.specs.declared.tally.Extremes.TheVariants.{Absent, Both}
 use Rattle.average.specs.declared.tally.Tally.{Tally}
+use Rattle.average.specs.declared.tally.Extremes.{Extremes}
 
 -- a sum over a list
 abbrev pub total : {X : Type 0} → (X → ℕ) → List X → ℕ
@@ -28,9 +27,9 @@ pub record IsSum (count : ℕ) (sum : ℤ) : Type 0 where
   pub most : sum ≤ℤ pos (14335 * count)
 
 -- extremes, where there are any, with mantissas
-abbrev pub HaveMantissas : Extremes → Type 0
-HaveMantissas Absent = Unit
-HaveMantissas (Both d b) = IsMantissa d.mantissa × IsMantissa b.mantissa
+abbrev pub HaveMantissas : Option Extremes → Type 0
+HaveMantissas None = Unit
+HaveMantissas (Some e) = IsMantissa e.darkest.mantissa × IsMantissa e.brightest.mantissa
 
 -- a tally of at most 2^40 luminances
 pub record IsTally (t : Tally) : Type 0 where

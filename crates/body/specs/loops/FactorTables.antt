@@ -1,5 +1,5 @@
 -- The factors of luminances under a tone, worked out as they appear. Assumes nothing.
-use Rattle.std.specs.Prelude.{◌≡◌, ℕ, ◌%◌, ◌^◌, ◌<◌, min, cond, ◌⊎◌, List, [], ◌∷◌, length, ◌==◌, slice_index, slice_index_or}
+use Rattle.std.specs.Prelude.{◌≡◌, ℕ, ◌%◌, ◌^◌, ◌<◌, min, cond, List, [], ◌∷◌, length, ◌==◌, ◌≢◌, slice_index, slice_index_or}
 use Rattle.number.proofs.Laws.{IsMantissa}
 use Rattle.number.specs.declared.channel.Pixel.{Pixel}
 use Rattle.number.specs.declared.ratio.Stored.{Stored}
@@ -22,7 +22,7 @@ factor_under t i = cond (i == 0) unlit_factor (factor_of (display_under t (store
 pub record IsFactorTable (t : Tone) (factors : List ℕ) : Type 0 where
   pub long : length factors ≡ index_count
   pub unlit : slice_index_or factors 0 0 ≡ unlit_factor
-  pub entry : (i : ℕ) → i < index_count → (slice_index factors i ≡ 0) ⊎ (slice_index factors i ≡ factor_under t i)
+  pub entry : (i : ℕ) → i < index_count → slice_index factors i ≢ 0 → slice_index factors i ≡ factor_under t i
 
 -- the limit of 255
 abbrev pub limited : WideLevels → List ℕ

@@ -1,6 +1,6 @@
 -- How luminances stand in an output between the tally and the levels: in the place of each pixel, the index of its luminance in two bytes.
 -- Assumes nothing.
-use Rattle.std.specs.Prelude.{◌≡◌, ℕ, ◌/◌, ◌%◌, ◌^◌, ◌<◌, ◌≤◌, cond, List, [], ◌∷◌, map, length, ◌==◌, slice_index}
+use Rattle.std.specs.Prelude.{◌≡◌, ℕ, ◌/◌, ◌%◌, ◌^◌, ◌<◌, ◌≤◌, cond, List, [], ◌∷◌, map, length, ◌==◌, slice_index, None, Some}
 use mathlib.Core.List.{flat_map}
 use Rattle.number.specs.Channels.{IsCode}
 use Rattle.number.specs.declared.channel.Pixel.{Pixel}
@@ -8,9 +8,7 @@ use Rattle.refusal.specs.Output.{onto}
 use Rattle.word.specs.Fields.{low16}
 use Rattle.word.specs.Pixels.{word_pixels}
 use Rattle.luminance.specs.loops.Codes.{index_of, index_count, stored_at}
-use Rattle.luminance.specs.Pixels.{luminance_of, IsLuminance}
-use Rattle.luminance.specs.declared.pixel.Luminance.{Luminance}
-use Rattle.luminance.specs.declared.pixel.Luminance.TheVariants.{Unlit, Lit}
+use Rattle.luminance.specs.Pixels.{luminance_of, IsLuminance, Luminance}
 
 -- words whose lower halves are channels, at most 2^40 of them
 pub record IsBody (ws : List ℕ) : Type 0 where
@@ -19,11 +17,11 @@ pub record IsBody (ws : List ℕ) : Type 0 where
 
 -- the luminance at an index, none at 0
 unfoldable pub luminance_at : (i : ℕ) → Luminance
-luminance_at i = cond (i == 0) Unlit (Lit (stored_at i))
+luminance_at i = cond (i == 0) None (Some (stored_at i))
 
 abbrev pub InRange : Luminance → Type 0
-InRange Unlit = Unit
-InRange (Lit y) = IsLuminance y
+InRange None = Unit
+InRange (Some y) = IsLuminance y
 
 -- an index of a luminance that there is, or of none
 pub record IsIndex (i : ℕ) : Type 0 where

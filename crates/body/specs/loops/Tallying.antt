@@ -1,13 +1,13 @@
 -- What the tally of pixels is made of: sums and extremes by the indices of all of them. What unlit ones add, at index 0, is taken off at the
 -- end. Assumes nothing.
-use Rattle.std.specs.Prelude.{◌≡◌, ℕ, ◌+◌, ◌-◌, ◌*◌, ◌%◌, ◌^◌, ◌≤◌, min, cond, List, [], ◌∷◌, length, ◌==◌}
+use Rattle.std.specs.Prelude.{◌≡◌, ℕ, ◌+◌, ◌-◌, ◌*◌, ◌%◌, ◌^◌, ◌≤◌, min, cond, List, [], ◌∷◌, length, ◌==◌, None, Option, Some}
 use Rattle.std.proofs.Math.IntN.{sub_ℕ}
 use Rattle.luminance.specs.loops.Codes.{stored_at}
-use Rattle.average.specs.declared.tally.Extremes.{Extremes}
-use Rattle.average.specs.declared.tally.Extremes.TheVariants.{Absent, Both}
 use Rattle.average.specs.declared.tally.Tally.{Tally}
 use Rattle.average.specs.loops.Sums.{total, raised_steps}
 use Rattle.body.specs.declared.tally.Sums.{Sums}
+use Rattle.average.specs.Tallies.{◌up_to◌}
+use Rattle.average.specs.declared.tally.Extremes.{Extremes}
 
 -- ---- sums
 
@@ -46,8 +46,8 @@ abbrev pub from_brightest : (i : ℕ) → ℕ
 from_brightest i = 65535 - i
 
 -- the extremes by the lowest of these numbers
-unfoldable pub extremes_at : (dark bright : ℕ) → Extremes
-extremes_at d b = cond (b == 65535) Absent (Both (stored_at (d + 1)) (stored_at (65535 - b)))
+unfoldable pub extremes_at : (dark bright : ℕ) → (Option Extremes)
+extremes_at d b = cond (b == 65535) None (Some ((stored_at (d + 1)) up_to (stored_at (65535 - b))))
 
 -- as many numbers as before, whose lowest is that of the former and of some more
 pub record KeptLowest (before more after : List ℕ) : Type 0 where

@@ -6,7 +6,7 @@ use Rattle.light.proofs.Counting.{counting_none, counting_next, counting_most, c
 use Rattle.light.proofs.lit_up_to.Goals as goal
 
 pub loop-p-init : goal.loop-p-init
-loop-p-init c = (counting_none _, omega arith, omega arith)
+loop-p-init c = (counting_none _, omega arith)
 
 pub returns-then-lit-most : goal.returns-then-lit-most
 returns-then-lit-most c =
@@ -17,7 +17,7 @@ pub loop-p-preserved : goal.loop-p-preserved
 loop-p-preserved c =
     let next = counting_next c.args.words.now c.loop-p.p c.loop-p-test.true in
     let one = lit_few (pixel_at c.args.words.now c.loop-p.p ∷ []) in
-    (omega arith, omega arith, omega arith)
+    (omega arith, omega arith)
 
 pub returns : goal.returns
 returns c =

@@ -1,11 +1,8 @@
 -- What the loop keeps to.
-use Prim.Native.Nat.{◌-◌, ◌≤◌}
+use Prim.Native.Nat.{◌≤◌}
 use mathlib.Core.Path.{◌≡◌}
 use Rattle.light.proofs.Counting.{counting}
 use Rattle.light.proofs.lit_up_to.Given as goal
 
 abbrev pub invariant-loop-p : goal.invariant-loop-p
-invariant-loop-p l = (l.lit ≡ counting l.words l.p) × (l.lit ≤ l.most) × (l.p ≤ l.pixels)
-
-abbrev pub decreases-loop-p : goal.decreases-loop-p
-decreases-loop-p l = l.pixels - l.p
+invariant-loop-p l = (l.lit ≡ counting l.words l.p) × (l.lit ≤ l.most)

@@ -1,15 +1,13 @@
 -- A pixel by the 16-bit forms of its channels, and its luminance as a number for tables. Assumes nothing.
-use Rattle.std.specs.Prelude.{◌≡◌, ℕ, ◌+◌, ◌-◌, ◌*◌, ◌/◌, ◌%◌, ◌^◌, ◌<◌, ◌≤◌, min, cond, List, ◌==◌, ◌≢◌, nat_lt, slice_index}
+use Rattle.std.specs.Prelude.{◌≡◌, ℕ, ◌+◌, ◌-◌, ◌*◌, ◌/◌, ◌%◌, ◌^◌, ◌<◌, ◌≤◌, min, cond, List, ◌==◌, ◌≢◌, nat_lt, slice_index, None, Some}
 use Rattle.number.proofs.Laws.{IsCode}
 use Rattle.number.specs.declared.ratio.Stored.{Stored}
-use Rattle.luminance.specs.Pixels.{code_pixel, luminance_of}
-use Rattle.luminance.specs.declared.pixel.Luminance.{Luminance}
-use Rattle.luminance.specs.declared.pixel.Luminance.TheVariants.{Unlit}
+use Rattle.luminance.specs.Pixels.{code_pixel, Luminance, luminance_of}
 
 -- Luminances in a row: 128 mantissas an exponent, from exponent 66 on, so that 0 is left for an unlit pixel.
 abbrev pub index_of : Luminance → ℕ
-index_of Unlit = 0
-index_of (Luminance.Lit y) = 128 * (y.exponent - 66) + (y.mantissa - 128)
+index_of None = 0
+index_of (Some y) = 128 * (y.exponent - 66) + (y.mantissa - 128)
 
 -- one more than the index of (184,255)
 abbrev pub index_count : ℕ

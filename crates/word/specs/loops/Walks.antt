@@ -1,11 +1,11 @@
 -- How far a walk over elements or channel words has come. Assumes nothing.
 use Rattle.std.specs.Prelude.{ℕ, ◌+◌, ◌*◌, List, get_or, drop}
 use Rattle.std.proofs.lemmas.List.Edits.{sets}
-use Rattle.number.specs.declared.channel.Decoded.{Decoded}
 use Rattle.number.specs.declared.channel.Pixel.{Pixel}
 use Rattle.word.specs.Words.{body_words}
 use Rattle.word.specs.Placing.{placed, channels_of}
 use Rattle.word.specs.Pixels.{pixel_of, word_channel}
+use Rattle.number.specs.Channels.{Decoded}
 
 -- the body t once the words of the elements from number i on are stored in it; f says what an element decodes to
 unfoldable pub writing : (f : ℕ → ℕ → Decoded) → List ℕ → (i : ℕ) → List ℕ → List ℕ

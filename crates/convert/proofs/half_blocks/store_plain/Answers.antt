@@ -8,4 +8,4 @@ pub loop-j-preserved : goal.loop-j-preserved
 loop-j-preserved c =
     let kind = kind_at _ _ _ c.requires.0.table c.requires.0.first c.loop-j-test.true in
     block_next _ _ _ c.loop-j.body c.loop-j.invariant c.requires.0.within c.loop-j-test.true
-    (rw (kind, c.plain_codes.ensures.code _ c.loop-j-test.true) (omega arith))
+    (rw (kind, c.plain_codes-codes.ensures.code _ c.loop-j-test.true) (omega arith))

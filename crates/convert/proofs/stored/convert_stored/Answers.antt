@@ -1,37 +1,10 @@
--- `convert::stored::convert_stored` meets its contract: a refusal comes before the first store, and the stores make the strip.
-use Rattle.std.proofs.Common.{sym, ◌∙◌, arith}
-use Rattle.convert.specs.Formats.{stored}
-use Rattle.frame.proofs.Frames.{page}
-use Rattle.convert.proofs.Pages.{page_refused, element_refused, accepted}
+-- `convert::stored::convert_stored` meets its contract: each element is its own number.
+use Rattle.std.proofs.Common.{ap}
+use Rattle.std.proofs.lemmas.List.{map-id}
+use Rattle.refusal.specs.Verdicts.{report_of}
+use Rattle.convert.specs.Converting.{check_source}
 use Rattle.convert.proofs.stored.convert_stored.Goals as goal
 
-pub returns-in_default : goal.returns-in_default
-returns-in_default c =
-    let p = page_refused stored _ _ _ c.check_frame-page.ensures.verdict c.in_default.is in
-    record { verdict = p.0; outcome = p.1.0; content = p.1.1 }
-
-pub returns-in_default-channels : goal.returns-in_default-channels
-returns-in_default-channels c =
-    let p = element_refused stored _ _ _ c.check_frame-page.ensures.verdict c.in-Accepted.is
-    c.check_stored-channels.ensures c.in_default-channels.is in
-    record { verdict = p.0; outcome = p.1.0; content = p.1.1 }
-
-pub body_end-end-requires : goal.body_end-end-requires
-body_end-end-requires c = (page _ _ _ _ (sym c.check_frame-page.ensures.verdict ∙ c.in-Accepted.is)).size
-
-pub slice_bounds-store_stored-end : goal.slice_bounds-store_stored-end
-slice_bounds-store_stored-end c = omega (arith, (page _ _ _ _ (sym c.check_frame-page.ensures.verdict ∙ c.in-Accepted.is)).fits)
-
-pub store_stored-requires : goal.store_stored-requires
-store_stored-requires c = omega (arith, (page _ _ _ _ (sym c.check_frame-page.ensures.verdict ∙ c.in-Accepted.is)).long)
-
-pub store_frame-requires : goal.store_frame-requires
-store_frame-requires c =
-    let p = page _ _ _ _ (sym c.check_frame-page.ensures.verdict ∙ c.in-Accepted.is) in (p.size, p.key, p.white, omega (arith, p.fits))
-
-pub returns : goal.returns
-returns c =
-    let p = accepted stored _ _ _ c.check_frame-page.ensures.verdict c.in-Accepted.is
-    c.check_stored-channels.ensures c.in-Accepted-channels.is
-    c.body_start-start.ensures c.body_end-end.ensures c.store_stored.ensures c.store_frame.ensures in
-    record { verdict = p.0; outcome = p.1.0; content = p.1.1 }
+pub returns-clause-outcome : goal.returns-clause-outcome
+unfolding check_source
+returns-clause-outcome c = ap report_of (simp map-id at c.convert.ensures.verdict)

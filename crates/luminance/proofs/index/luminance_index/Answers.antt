@@ -1,13 +1,10 @@
 -- `luminance::index::luminance_index` meets its contract. Assumes nothing.
-use Rattle.std.proofs.Common.{◌≡◌, ℕ, ◌+◌, ◌-◌, ◌*◌, ◌/◌, ◌%◌, ◌^◌, ◌<◌, ◌≤◌, min, List, get_or, ◌∙◌, mul-le-mul_left, arith, pow_mono}
+use Rattle.std.proofs.Common.{◌≡◌, ℕ, ◌+◌, ◌-◌, ◌*◌, ◌/◌, ◌%◌, ◌^◌, ◌<◌, ◌≤◌, min, List, get_or, ◌∙◌, arith}
 use Rattle.number.proofs.Laws.{IsCode}
 use Rattle.luminance.specs.Pixels.{code_pixel, luminance_of}
 use Rattle.luminance.specs.loops.Codes.{index_of, IsWeightTable, IsCut}
-use Rattle.luminance.proofs.Indices.{pixel_index_law, black_index}
+use Rattle.luminance.proofs.Indices.{pixel_index_law}
 use Rattle.luminance.proofs.index.luminance_index.Goals as goal
-
-entry_most : (weight i : ℕ) (entries : List ℕ) → IsWeightTable weight entries → i < 48 → get_or entries i 0 ≤ weight * 2 ^ 47
-entry_most weight i entries t h = rw (t.entry i h) (mul-le-mul_left weight (pow_mono {i = i} {j = 47} (omega arith)))
 
 -- the index by the first digits of the sum, where the weights of red and blue stand at r and b in their tables
 near : (reds blues : List ℕ) (red green blue r b s t k : ℕ)
@@ -20,18 +17,6 @@ near : (reds blues : List ℕ) (red green blue r b s t k : ℕ)
 near reds blues red green blue r b s t k given at_r at_b sum some cut other =
     pixel_index_law _ given.2 given.3 given.4 (at_r.0, at_r.1 at_r.0) (at_b.0, at_b.1 at_b.0)
     (rw (given.0.entry _ at_r.0, given.1.entry _ at_b.0) at sum) (λ h h' h''. some (omega arith)) cut other
-
-pub returns-then-red-green-eq0 : goal.returns-then-red-green-eq0
-returns-then-red-green-eq0 c = black_index _ c.requires.2 c.requires.3 c.requires.4 (omega arith) (omega arith) (omega arith)
-
-pub weighted_sum-sum-requires : goal.weighted_sum-sum-requires
-weighted_sum-sum-requires c = (
-  entry_most 27 _ _ c.requires.0 c.if-r-ge48.false,
-  entry_most 6 _ _ c.requires.1 c.if-b-ge48.false,
-  omega arith,
-  omega arith,
-  omega arith,
-)
 
 pub cut_index-requires : goal.cut_index-requires
 cut_index-requires c =

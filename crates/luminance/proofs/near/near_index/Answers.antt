@@ -1,5 +1,5 @@
 -- `luminance::near::near_index` meets its contract. Assumes nothing.
-use Rattle.std.proofs.Common.{sym, ◌∙◌, ap₂, arith}
+use Rattle.std.proofs.Common.{sym, ◌∙◌, ap₂}
 use Rattle.luminance.specs.loops.Codes.{near_sum}
 use Rattle.luminance.proofs.Octaves.{near_black, far_blue, far_red, worked_out}
 use Rattle.luminance.proofs.near.near_index.Goals.{then-b-lt8, else-b-lt8, then-r-lt8, else-r-lt8}
@@ -19,9 +19,8 @@ returns-else-exponent-eq0 c =
           elim c.if-r-lt8.branch [
             | then-r-lt8 near_red ↦
                 near.near-is ∙ near_red.near_red-is
-                ∙ worked_out _ _ _ lit blue _ _ _ (rw at_red at near_red.if-r-lt8.true)
-                (c.near_sum-sum.ensures.sum ∙ ap₂ (near_sum _ _ _) at_red at_blue)
-                c.octave_index-octave.ensures (omega arith) c.wrapping_sub_u16-index.ensures.value
+                ∙ worked_out _ _ _ lit blue _ _ (rw at_red at near_red.if-r-lt8.true)
+                (c.near_sum-sum.ensures.sum ∙ ap₂ (near_sum _ _ _) at_red at_blue) c.octave_index-octave.ensures
             | else-r-lt8 far ↦ near.near-is ∙ far.near_red-is ∙ sym (far_red _ _ _ lit blue (rw at_red at far.if-r-lt8.false))
           ]
       | else-b-lt8 far ↦ far.near-is ∙ sym (far_blue _ _ _ lit (rw at_blue at far.if-b-lt8.false))

@@ -16,11 +16,11 @@ module _ (rest den i q r : ℕ) (small : q < 2 ^ (i + 1)) (so_far : q * den + r 
       let whole : q * den + r ≡ (den + rest) * 128 = subst (λ (z : ℕ). q * den + r ≡ (den + rest) * 2 ^ z) e so_far in
       cell (omega arith) (omega arith) (omega arith) (omega arith)
 
-pub loop-i-preserved : goal.loop-i-preserved
-loop-i-preserved c =
-    let d = next _ _ c.loop-i.i _ _ c.loop-i.invariant.2 c.loop-i.invariant.3 _ _ c.next_digit-q.ensures.0 c.next_digit-q.ensures.2 in
-    (omega arith, c.next_digit-q.ensures.1, d.0, d.1)
+pub loop-preserved : goal.loop-preserved
+loop-preserved c =
+    let d = next _ _ c.loop.counter _ _ c.loop.invariant.1 c.loop.invariant.2 _ _ c.next-q.ensures.0 c.next-q.ensures.2 in
+    (c.next-q.ensures.1, d.0, d.1)
 
 pub returns : goal.returns
 returns c =
-    last _ _ c.loop-i.i _ _ c.loop-i.invariant.2 c.loop-i.invariant.3 (omega arith) c.requires.0 c.loop-i.invariant.1
+    last _ _ c.loop.counter _ _ c.loop.invariant.1 c.loop.invariant.2 (omega arith) c.requires.0 c.loop.invariant.0

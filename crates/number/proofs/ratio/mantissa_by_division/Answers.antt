@@ -18,9 +18,6 @@ module _ (rest part : ℕ) (h : (0 < rest) × (rest < 128 * part)) where
       let ceiling : rest < (q + 1) * part = (div-lt_iff_lt-mul positive).0 (omega arith) in
       cell (omega arith) (omega (arith, seven)) (omega arith) (omega arith)
 
-fits : (c : goal.Start) → c.args.rest / c.args.part < 128
-fits c = seven _ _ c.requires
-
 pub returns : goal.returns
 returns c =
     divided _ _ c.requires

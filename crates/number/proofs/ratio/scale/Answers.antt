@@ -25,13 +25,6 @@ module _ {num den n d : ℕ} (a b : ℕ) (p : n ≡ num * 2 ^ a) (q : d ≡ den 
 -- whichever of the two is larger
 module _ (n d : ℕ) {rest : ℕ} (apart : n ≡ d → ⊥) (least : d < 2 * n) (most : n < 2 * d)
     (left : (n < d → rest ≡ n - (d - n)) × (d ≤ n → rest ≡ n - d)) where
-  rest_bounds : (0 < rest) × (rest < d)
-  rest_bounds = go (dec_lt n d)
-    where
-      go : Dec (n < d) → (0 < rest) × (rest < d)
-      go (yes h) = let e = left.0 h in (omega arith, omega arith)
-      go (no h) = let e = left.1 (omega arith) in (omega arith, omega arith)
-
   either : (num den a b : ℕ) {M more : ℕ} → n ≡ num * 2 ^ a → d ≡ den * 2 ^ b → (n < d → more ≡ 0) × (d ≤ n → more ≡ 1)
       → Normalised (d + rest) (2 * d) M → Scales (num over den) a (b + more) M
   either num den a b {M} {more} p q places s = go (dec_lt n d)
@@ -52,4 +45,4 @@ pub returns : goal.returns
 returns c =
     -- with their top bits at one place, neither is twice the other
     either _ _ c.if-top-bottom.false (omega arith) (omega arith) c.rest_of.ensures _ _ _ _ c.align-n.ensures.0
-    c.align-d.ensures.0 c.place_more.ensures.which c.mantissa.ensures
+    c.align-d.ensures.0 (λ h. grind (arith, c.from.ensures), λ h. grind (arith, c.from.ensures)) c.mantissa.ensures

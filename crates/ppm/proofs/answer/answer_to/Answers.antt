@@ -1,11 +1,9 @@
 -- `ppm::answer::answer_to` meets its contract. Assumes nothing.
-use Rattle.std.proofs.Common.{◌≡◌, ◌/◌, refl, sym, ap, ◌∙◌, length, take, arith}
-use Rattle.refusal.specs.Verdicts.{report_of}
-use Rattle.refusal.specs.Output.{after}
+use Rattle.std.proofs.Common.{◌≡◌, refl, ap, ◌∙◌, length, arith}
 use Rattle.refusal.proofs.Outputs.{sets_front}
 use Rattle.ppm.specs.Text.{ascii}
-use Rattle.ppm.specs.Words.{little_endian, check_bytes}
-use Rattle.ppm.specs.Answers.{text_alone, printed_refusal, printed_for}
+use Rattle.ppm.specs.Words.{check_bytes}
+use Rattle.ppm.specs.Answers.{printed_for}
 use Rattle.ppm.proofs.Printing.{laid_alone, printed_long, words_long, printed_uneven, printed_strip, strip_stored, answered, answered_as}
 use Rattle.ppm.proofs.answer.answer_to.Goals as goal
 
@@ -27,19 +25,17 @@ returns-then-input-gt65536 c =
       lent = all.1.1.1.1;
     }
 
-pub returns-in_default : goal.returns-in_default
-returns-in_default c =
+pub returns-in-Err : goal.returns-in-Err
+returns-in-Err c =
     let bs = c.args.input.now in
     let room : length c.args.words.now ≡ 16384 = omega arith in
-    let told = c.store_words-verdict.ensures.verdict ∙ ap (check_bytes bs) room in
-    let txt = (printed_refusal (report_of c.store_words-verdict.result)).text in
+    let told = c.store_words.ensures.verdict ∙ ap (check_bytes bs) room in
     let t = c.args.text.now in
     let u = c.args.samples.now in
-    let laid = laid_alone txt t u c.refused_verdict.ensures.count c.refused_verdict.ensures.content refl in
-    let uneven = printed_uneven bs (omega arith) told c.in_default.is in
-    let all = answered_as t u uneven laid in
+    let uneven = printed_uneven bs (omega arith) told c.in-Err.is in
+    let all = answered_as t u uneven (c.refusal_line.ensures.counts, (c.refusal_line.ensures.text, refl)) in
     record {
-      words = rw (← told) c.store_words-verdict.ensures.content;
+      words = rw (← told) c.store_words.ensures.content;
       counts = all.0;
       text = all.1.0;
       samples = all.1.1.0;
@@ -52,15 +48,15 @@ returns c =
     let bs = c.args.input.now in
     let ws = c.args.words.now in
     let room : length ws ≡ 16384 = omega arith in
-    let told = c.store_words-verdict.ensures.verdict ∙ ap (check_bytes bs) room in
-    let printed = printed_strip bs (omega arith) told c.in-Accepted.is in
-    let strip = strip_stored bs (omega arith) told c.in-Accepted.is _ ws c.store_words-verdict.ensures.content in
+    let told = c.store_words.ensures.verdict ∙ ap (check_bytes bs) room in
+    let printed = printed_strip bs (omega arith) told c.in_default.is in
+    let strip = strip_stored bs (omega arith) told c.in_default.is _ ws c.store_words.ensures.content in
     let counts = rw (strip, printed) at c.picture.ensures.counts in
     let text = rw (strip, printed) at c.picture.ensures.text in
     let samples = rw (strip, printed) at c.picture.ensures.samples in
     let all = answered (printed_for bs) c.args.text.now c.args.samples.now (counts, (text, samples)) in
     record {
-      words = rw (← told) c.store_words-verdict.ensures.content;
+      words = rw (← told) c.store_words.ensures.content;
       counts = all.0;
       text = all.1.0;
       samples = all.1.1.0;

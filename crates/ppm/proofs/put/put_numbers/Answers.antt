@@ -1,16 +1,7 @@
 -- `ppm::put::put_numbers` meets its contract: five pieces, one behind another. Assumes nothing.
 use Rattle.std.proofs.Common.{arith}
-use Rattle.ppm.proofs.Texts.{length_decimal, numbers_put}
+use Rattle.ppm.proofs.Texts.{numbers_put}
 use Rattle.ppm.proofs.put.put_numbers.Goals as goal
-
-pub put-second_at-requires : goal.put-second_at-requires
-put-second_at-requires c = omega (arith, length_decimal c.args.first)
-
-pub put_decimal-behind_at-requires : goal.put_decimal-behind_at-requires
-put_decimal-behind_at-requires c = omega (arith, length_decimal c.args.first)
-
-pub put-requires : goal.put-requires
-put-requires c = omega (arith, length_decimal c.args.first, length_decimal c.args.second)
 
 pub returns : goal.returns
 returns c =

@@ -1,13 +1,9 @@
 -- `ppm::words::fill_words` meets its contract: at each turn the stores that are left give the whole. Assumes nothing.
-use Prim.Native.Nat.{◌-◌, ◌/◌, ◌<◌}
-use mathlib.Core.Path.{◌≡◌, refl, sym, ◌∙◌}
-use native.Mathlib.Omega.{arith}
-use lib.ListN.{length}
-use Rattle.refusal.specs.Output.{onto}
+use Rattle.std.proofs.Common.{◌<◌, ◌/◌, refl, sym, ◌∙◌, length, arith}
 use Rattle.refusal.proofs.Outputs.{sets_front}
-use Rattle.word.proofs.Walks.{storing, storing_all, storing_next, storing_done}
+use Rattle.word.proofs.Walks.{storing_all, storing_next, storing_done}
 use Rattle.ppm.specs.Words.{little_endian}
-use Rattle.ppm.proofs.Endian.{length_words, get_d_words}
+use Rattle.ppm.proofs.Endian.{length_words, chunk_word}
 use Rattle.ppm.proofs.words.fill_words.Goals as goal
 
 pub loop-i-init : goal.loop-i-init
@@ -17,8 +13,9 @@ loop-i-init c =
 pub loop-i-preserved : goal.loop-i-preserved
 loop-i-preserved c =
     let inside : c.loop-i.i < length c.args.bytes.now / 4 = omega arith in
-    storing_next _ _ _ c.loop-i.output c.loop-i.invariant (rw (length_words c.args.bytes.now) inside) (get_d_words c.args.bytes.now _ inside ∙ sym c.word_of.ensures)
+    let chunk = chunk_word c.args.bytes.now _ c.loop-i.i refl inside in
+    let word = rw c.as_chunks.ensures.front at c.from_le_bytes.ensures in
+    storing_next _ _ _ c.loop-i.output c.loop-i.invariant (rw (length_words c.args.bytes.now) inside) (chunk ∙ sym word)
 
 pub returns : goal.returns
-returns c =
-    storing_done _ _ _ _ c.loop-i.invariant (rw (length_words c.args.bytes.now) (omega arith))
+returns c = storing_done _ _ _ _ c.loop-i.invariant (rw (length_words c.args.bytes.now) (omega arith))

@@ -1,5 +1,4 @@
 -- What the loop keeps to.
-use Prim.Native.Nat.{◌-◌}
 use mathlib.Core.Path.{◌≡◌}
 use mathlib.Core.List.{map}
 use lib.ListN.{length}
@@ -10,6 +9,3 @@ use Rattle.strip.proofs.read.store_codes.Given as goal
 
 abbrev pub invariant-loop-i : goal.invariant-loop-i
 invariant-loop-i l = (length l.output ≡ length l.initial.output) × (storing (map low16 l.words) l.i l.i l.output ≡ onto (map low16 l.words) l.initial.output)
-
-abbrev pub decreases-loop-i : goal.decreases-loop-i
-decreases-loop-i l = length l.words - l.i

@@ -1,12 +1,9 @@
 -- What the loop keeps to: the entries below k are filled.
 use mathlib.Core.Path.{◌≡◌}
-use Prim.Native.Nat.{◌+◌, ◌-◌, ◌≤◌}
+use Prim.Native.Nat.{◌+◌}
 use Rattle.number.proofs.Laws.{Filled}
 use Rattle.tone.specs.loops.ScaledTables.{scaled_code}
 use Rattle.tone.proofs.level.scaled_table.Given as goal
 
 abbrev pub invariant-loop-k : goal.invariant-loop-k
-invariant-loop-k l = (l.k ≤ 128) × Filled (λ i v. v ≡ scaled_code l.tone (128 + i)) 128 l.k l.codes
-
-abbrev pub decreases-loop-k : goal.decreases-loop-k
-decreases-loop-k l = 128 - l.k
+invariant-loop-k l = Filled (λ i v. v ≡ scaled_code l.tone (128 + i)) 128 l.k l.code-items

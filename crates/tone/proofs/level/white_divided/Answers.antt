@@ -11,11 +11,11 @@ pub white_quotient-requires : goal.white_quotient-requires
 white_quotient-requires c = (
   omega arith,
   omega arith,
-  in_units _ _ _ _ _ (omega arith) (omega arith) c.up_to_137-units.ensures c.shift_left-one.ensures c.shift_left-part.ensures,
+  in_units _ _ _ _ _ (omega arith) (omega arith) c.min-units.ensures c.shift_left-one.ensures c.shift_left-part.ensures,
 )
 
 pub returns : goal.returns
 returns c =
     c.white_quotient.ensures
     ∙ ap (λ (z : ℕ). stored_of (white_point c.args.tenths (z over unit)))
-    (same_units c.args.value c.args.exponent _ _ c.up_to_137-units.ensures c.shift_left-part.ensures)
+    (same_units c.args.value c.args.exponent _ _ c.min-units.ensures c.shift_left-part.ensures)
