@@ -1,4 +1,5 @@
-// Source pictures into strips: RGBE, half and single floats, and stored channels.
+// Source pictures into strips: RGBE, half and single floats, and stored channels. Each has a public call with a contract of its own, one line
+// over the one conversion.
 #![tactic(auto)]
 
 mod each;
