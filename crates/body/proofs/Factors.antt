@@ -43,6 +43,10 @@ module _ (t : Tone) where
           rw (factor_lit e) (factor_most _ _ (display_mantissa t _ tone y) y.mantissa)
 
   module _ (factors : List ℕ) (table : IsFactorTable t factors) (i : ℕ) (inside : i < index_count) where
+    -- an entry that is not 0 is right
+    pub kept : (get_or factors i 0 ≡ 0 → ⊥) → get_or factors i 0 ≡ factor_under t i
+    kept some = table.entry i inside some
+
     -- an entry that is 0 is not that of the unlit pixels
     pub not_unlit : get_or factors i 0 ≡ 0 → i ≡ 0 → ⊥
     not_unlit none e = let z : ◌≡◌ {A = ℕ} 0 (2 ^ 40) = sym none ∙ rw e table.unlit in omega arith

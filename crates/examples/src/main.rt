@@ -6,51 +6,51 @@ mod print;
 mod sources;
 
 use crate::pages::{grey_and_black, header, one_grey, red_alone, three_greys};
+use crate::print::Output;
 use crate::sources::grey;
 use convert::half::convert_half;
 use convert::rgbe::convert_rgbe;
 use convert::single::convert_single;
-use std::io;
+use std::fmt;
 
-// A write that fails ends the examples, and is not told.
-fn main(rt: HostRuntime) {
-    let _ = print_all(&rt);
+fn main() {
+    let _ = print_all(&mut Output);
 }
 
-fn print_all(rt: &impl Print) -> io::Result<()> {
+fn print_all(output: &mut Output) -> fmt::Result {
     let page = header(1, 180);
     grey(
-        rt,
-        "half 0003",
+        output,
+        "half 0003: ",
         |strip| convert_half(&[0x0003; 3], page, strip),
     )?;
     grey(
-        rt,
-        "half 8000",
+        output,
+        "half 8000: ",
         |strip| convert_half(&[0x8000; 3], page, strip),
     )?;
     grey(
-        rt,
-        "RGBE byte 1, e 136",
+        output,
+        "RGBE byte 1, e 136: ",
         |strip| convert_rgbe(&[1, 1, 1, 136], page, strip),
     )?;
     grey(
-        rt,
-        "RGBE byte 128, e 185",
+        output,
+        "RGBE byte 128, e 185: ",
         |strip| convert_rgbe(&[128, 128, 128, 185], page, strip),
     )?;
     grey(
-        rt,
-        "single 23000001",
+        output,
+        "single 23000001: ",
         |strip| convert_single(&[0x23000001; 3], page, strip),
     )?;
     grey(
-        rt,
-        "single 5B800000",
+        output,
+        "single 5B800000: ",
         |strip| convert_single(&[0x5B800000; 3], page, strip),
     )?;
-    one_grey(rt)?;
-    three_greys(rt)?;
-    grey_and_black(rt)?;
-    red_alone(rt)
+    one_grey(output)?;
+    three_greys(output)?;
+    grey_and_black(output)?;
+    red_alone(output)
 }

@@ -1,12 +1,12 @@
 // Examples of whole pages, converted from halves.
-use crate::print::{Levels, Pair, Refused};
+use crate::print::{Levels, Output, Pair, Refused, Signed};
 use average::average::Average;
 use convert::half::convert_half;
 use luminance::index::code_luminance;
 use number::ratio::Stored;
 use page::map::map;
 use page::tally::tally;
-use std::io;
+use std::fmt::{self, Write};
 use strip::read::body;
 use word::header::{Header, low_half};
 
@@ -33,30 +33,30 @@ fn average(strip: &[u32]) -> Option<Average> {
 }
 
 // The A of a strip.
-fn steps(rt: &impl Print, strip: &[u32]) -> io::Result<()> {
+fn steps(output: &mut Output, strip: &[u32]) -> fmt::Result {
     match average(strip) {
-        Some(average) => print!(rt; "A = {}", average.steps),
-        None => print!(rt; "absent"),
+        Some(average) => write!(output, "A = {}", Signed(average.steps)),
+        None => write!(output, "absent"),
     }
 }
 
 // The stored average of a strip.
-fn stored(rt: &impl Print, strip: &[u32]) -> io::Result<()> {
+fn stored(output: &mut Output, strip: &[u32]) -> fmt::Result {
     match average(strip) {
-        Some(average) => print!(rt; ", average {}", Pair(average.stored)),
-        None => print!(rt; ", absent"),
+        Some(average) => write!(output, ", average {}", Pair(average.stored)),
+        None => write!(output, ", absent"),
     }
 }
 
 // The levels of a strip of one or two pixels.
-fn levels(rt: &impl Print, strip: &[u32]) -> io::Result<()> {
+fn levels(output: &mut Output, strip: &[u32]) -> fmt::Result {
     let mut bytes = [0u8; 6];
     match map(strip, &mut bytes) {
         Ok(()) => {
             let count = body(strip).len().min(6);
-            print!(rt; ", levels{}", Levels(&bytes[..count]))
+            write!(output, ", levels{}", Levels(&bytes[..count]))
         },
-        Err(fault) => print!(rt; "{}", Refused(fault)),
+        Err(fault) => write!(output, "{}", Refused(fault)),
     }
 }
 
@@ -68,43 +68,43 @@ fn luminance(strip: &[u32]) -> Option<Stored> {
     }
 }
 
-pub fn one_grey(rt: &impl Print) -> io::Result<()> {
+pub fn one_grey(output: &mut Output) -> fmt::Result {
     let strip: [u32; 6] = strip_of(&[0x3C00; 3], header(1, 180));
-    print!(rt; "one grey 3C00, K 180: ")?;
-    steps(rt, &strip)?;
-    stored(rt, &strip)?;
-    levels(rt, &strip)?;
-    println!(rt; "")
+    write!(output, "one grey 3C00, K 180: ")?;
+    steps(output, &strip)?;
+    stored(output, &strip)?;
+    levels(output, &strip)?;
+    write!(output, "\n")
 }
 
-pub fn three_greys(rt: &impl Print) -> io::Result<()> {
+pub fn three_greys(output: &mut Output) -> fmt::Result {
     let halves = [
         0x3C00, 0x3C00, 0x3C00, 0x3C00, 0x3C00, 0x3C00, 0x3800, 0x3800, 0x3800,
     ];
     let strip: [u32; 12] = strip_of(&halves, header(3, 180));
-    print!(rt; "greys 3C00, 3C00, 3800, K 180: ")?;
-    steps(rt, &strip)?;
-    println!(rt; "")
+    write!(output, "greys 3C00, 3C00, 3800, K 180: ")?;
+    steps(output, &strip)?;
+    write!(output, "\n")
 }
 
-pub fn grey_and_black(rt: &impl Print) -> io::Result<()> {
+pub fn grey_and_black(output: &mut Output) -> fmt::Result {
     let strip: [u32; 9] = strip_of(&[0x7BFF, 0x7BFF, 0x7BFF, 0, 0, 0], header(2, 180));
-    print!(rt; "grey 7BFF and a black pixel, K 180: ")?;
-    steps(rt, &strip)?;
-    levels(rt, &strip)?;
-    println!(rt; "")
+    write!(output, "grey 7BFF and a black pixel, K 180: ")?;
+    steps(output, &strip)?;
+    levels(output, &strip)?;
+    write!(output, "\n")
 }
 
-pub fn red_alone(rt: &impl Print) -> io::Result<()> {
+pub fn red_alone(output: &mut Output) -> fmt::Result {
     let strip: [u32; 6] = strip_of(&[0x3C00, 0, 0], header(1, 180));
     match luminance(&strip) {
-        Some(stored) => print!(rt; "red 3C00 alone: luminance {}", Pair(stored))?,
-        None => print!(rt; "red 3C00 alone: unlit")?,
+        Some(stored) => write!(output, "red 3C00 alone: luminance {}", Pair(stored))?,
+        None => write!(output, "red 3C00 alone: unlit")?,
     }
-    print!(rt; ", K 180")?;
-    levels(rt, &strip)?;
+    write!(output, ", K 180")?;
+    levels(output, &strip)?;
     let brighter: [u32; 6] = strip_of(&[0x3C00, 0, 0], header(1, 1000));
-    print!(rt; ", K 1000")?;
-    levels(rt, &brighter)?;
-    println!(rt; "")
+    write!(output, ", K 1000")?;
+    levels(output, &brighter)?;
+    write!(output, "\n")
 }

@@ -3,6 +3,30 @@ use number::ratio::Stored;
 use refusal::{Fault, Outcome};
 use std::fmt;
 
+// Standard output, written piece by piece. A write that fails is passed over, and the next piece is written all the same.
+#[derive(Drop)]
+pub struct Output;
+
+impl fmt::Write for Output {
+    fn write_str(&mut self, text: &str) -> fmt::Result {
+        io::write_all(1, text.as_bytes());
+        Ok(())
+    }
+}
+
+// A signed number, its sign a piece by itself.
+#[derive(Clone, Copy)]
+pub struct Signed(pub i64);
+
+impl fmt::Display for Signed {
+    fn fmt<W: fmt::Write>(&self, f: &mut fmt::Formatter<W>) -> fmt::Result {
+        if self.0 < 0 {
+            write!(f, "-")?;
+        }
+        write!(f, "{}", self.0.unsigned_abs())
+    }
+}
+
 // A stored number.
 #[derive(Clone, Copy)]
 pub struct Pair(pub Stored);

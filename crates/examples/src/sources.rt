@@ -1,7 +1,7 @@
 // Examples of one number of a source: a picture of one grey pixel is converted, and its red channel printed behind a label.
-use crate::print::{Code, Refused};
+use crate::print::{Code, Output, Refused};
 use refusal::Fault;
-use std::io;
+use std::fmt::{self, Write};
 use strip::read::unpack;
 
 // The red channel of the strip that a conversion leaves, in its 16-bit form.
@@ -16,14 +16,14 @@ fn red<F: FnOnce(&mut [u32]) -> Result<(), Fault>>(convert: F) -> Result<u16, Fa
 }
 
 pub fn grey<F: FnOnce(&mut [u32]) -> Result<(), Fault>>(
-    rt: &impl Print,
+    output: &mut Output,
     label: &str,
     convert: F,
-) -> io::Result<()>
+) -> fmt::Result
     requires { F.IsAlwaysCallable convert }
 {
     match red(convert) {
-        Ok(code) => println!(rt; "{label}: {}", Code(code)),
-        Err(fault) => println!(rt; "{label}: {}", Refused(fault)),
+        Ok(code) => write!(output, "{label}{}\n", Code(code)),
+        Err(fault) => write!(output, "{label}{}\n", Refused(fault)),
     }
 }
