@@ -7,7 +7,6 @@ use lib.ListN.{length, length-append}
 use Rattle.number.specs.declared.channel.Pixel.{Pixel}
 use Rattle.number.proofs.Laws.{Every, every_append}
 use Rattle.refusal.specs.Output.{onto}
-use Rattle.std.specs.Prelude.{IsOk}
 use Rattle.word.specs.Words.{pixels}
 use Rattle.word.specs.Pixels.{word_pixels}
 use Rattle.strip.specs.Checks.{header_fields, body_part}
@@ -29,8 +28,8 @@ use Rattle.page.proofs.Laws.{strip_body, strip_valid}
 use Rattle.series.specs.Series.{Standing, series_of}
 use Rattle.bands.specs.Joining.{join_tallies}
 use Rattle.bands.specs.loops.Walks.{joined_pixels}
-use Rattle.bands.specs.Checks.{tall_header, check_bands}
-use Rattle.bands.proofs.Accepted.{IsBand, AreBands, bands_passed, tallies_of}
+use Rattle.bands.specs.Checks.{tall_header}
+use Rattle.bands.proofs.Accepted.{IsBand, AreBands, tallies_of}
 use Rattle.bands.proofs.Tall.{count_all, few_pixels}
 
 -- ---- where a walk stands: `left` are the bands that are left, `passed` the pixels of those that were passed
@@ -40,10 +39,7 @@ pub record Walked (r : List ℕ) (left : List Standing) (passed : List Pixel) : 
   pub valid : Every IsPixel passed
   pub all : passed ++ joined_pixels left ≡ joined_pixels (series_of r)
 
-module _ (r : List ℕ) (e : IsOk (check_bands r)) where
-  ok : AreBands r
-  ok = bands_passed r e
-
+module _ (r : List ℕ) (ok : AreBands r) where
   pub walked_none : {left : List Standing} → left ≡ series_of r → Walked r left []
   walked_none n = rw n (record { bands = ok.each; valid = tt; all = refl })
 
@@ -117,7 +113,7 @@ pixels_tally ps valid few =
 
 module _
     (r : List ℕ)
-    (e : IsOk (check_bands r))
+    (ok : AreBands r)
     {left : List Standing}
     {ps : List Pixel}
     (w : Walked r left ps)
@@ -132,18 +128,18 @@ module _
     (g : u ≡ tally_of (luminances_of (word_pixels words))) where
   pub both_tallies : IsTally t × IsTally u
   both_tallies =
-      let few = few_passed r e (walked_next r e w n f) in
+      let few = few_passed r ok (walked_next r ok w n f) in
       let long = length-append ps (word_pixels words) in (
-        rw tally (pixels_tally ps w.valid (few_passed r e w)),
-        rw g (pixels_tally (word_pixels words) (words_valid r e w n f) (omega (arith, few, long))),
+        rw tally (pixels_tally ps w.valid (few_passed r ok w)),
+        rw g (pixels_tally (word_pixels words) (words_valid r ok w n f) (omega (arith, few, long))),
       )
 
   pub tally_next : {v : Tally} → v ≡ join t u → v ≡ tally_of (luminances_of (ps ++ word_pixels words))
   tally_next h = h ∙ rw (tally, g) (sym (tally_join ps (word_pixels words)))
 
-pub tally_all : (r : List ℕ) → IsOk (check_bands r) → {left : List Standing} {ps : List Pixel} {t : Tally} → Walked r left ps
+pub tally_all : (r : List ℕ) → AreBands r → {left : List Standing} {ps : List Pixel} {t : Tally} → Walked r left ps
     → t ≡ tally_of (luminances_of ps) → left ≡ [] → t ≡ join_tallies (series_of r)
-tally_all r e w tally n = tally ∙ ap (λ ps. tally_of (luminances_of ps)) (walked_all r e w n) ∙ sym (tallies_of (series_of r))
+tally_all r ok w tally n = tally ∙ ap (λ ps. tally_of (luminances_of ps)) (walked_all r ok w n) ∙ sym (tallies_of (series_of r))
 
 -- ---- the walks
 
@@ -187,8 +183,8 @@ pub counted_next : (most : ℕ) {lit more : ℕ} (ps qs : List Pixel) → lit �
     → lit + more ≡ min most (lit_count (ps ++ qs))
 counted_next most ps qs e f = omega (arith, lit_append ps qs)
 
-pub counted_all : (r : List ℕ) → IsOk (check_bands r) → {most lit : ℕ} {left : List Standing} → Counted r most lit left → left ≡ []
+pub counted_all : (r : List ℕ) → AreBands r → {most lit : ℕ} {left : List Standing} → Counted r most lit left → left ≡ []
     → lit ≡ min most (join_tallies (series_of r)).count
-counted_all r e {most} c n =
-    c.count ∙ ap (λ ps. min most (lit_count ps)) (walked_all r e c.walk n)
+counted_all r ok {most} c n =
+    c.count ∙ ap (λ ps. min most (lit_count ps)) (walked_all r ok c.walk n)
     ∙ ap (min most) (sym (lit_count_law (joined_pixels (series_of r))) ∙ ap (λ t. t.count) (sym (tallies_of (series_of r))))

@@ -33,7 +33,8 @@ impl<'a> PageReader<'a> {
     }
 
     // One step: the next pixel, or none where the page is over, or the strip's refusal; and the reader moved on.
-    // No `Iterator`: a refused strip answers its refusal at every step.
+    // No `Iterator`: a refused strip answers its refusal at every step. Inline, so that a step that is passed over (`step_after`) works out no pixel.
+    #[inline(always)]
     pub fn next(&mut self) -> Result<Option<Pixel>, Fault>
         ensures { (result ≡ step_of self.old) × (step_told result ≡ step_told (step_of self.old)) × (self.new ≡ moved_of self.old) }
     {

@@ -11,6 +11,7 @@ use Rattle.word.specs.Pixels.{word_pixels}
 use Rattle.body.specs.Levels.{levels_under}
 use Rattle.body.specs.loops.Indices.{indices_of}
 use Rattle.body.proofs.Laws.{indices_append, length_indices, levels_append, length_levels}
+use Rattle.bands.proofs.Accepted.{bands_passed}
 use Rattle.bands.proofs.Outputs.{lent, put_next, held_part, held_room}
 use Rattle.bands.proofs.Walks.{walked_none, walked_all, words_body, words_next, words_within, words_few, walked_next}
 use Rattle.bands.proofs.check.Bands.map_each.Goals as goal
@@ -21,7 +22,7 @@ loop-band-init c =
     record {
       passed = [];
       walk =
-          walked_none _ c.args.self.now.accepted
+          walked_none _ (bands_passed _ c.args.self.now.accepted)
           (rw c.into_iter-band-iterator.ensures.into_iter_gives c.iter-band-items.ensures);
       at = refl;
       content = refl;
@@ -34,7 +35,7 @@ slice_bounds-map_levels-count c =
     let inv = c.loop-band.invariant in
     let held = held_room indices_of indices_append length_indices _ _ c.requires.1.front in
     let room : c.loop-band.done + length c.body-words.result.now ≤ length c.loop-band.output =
-    words_within _ c.args.self.now.accepted inv.walk c.in-Some.ensures.steps c.body-words.ensures inv.at
+    words_within _ (bands_passed _ c.args.self.now.accepted) inv.walk c.in-Some.ensures.steps c.body-words.ensures inv.at
     (omega (arith, held, inv.long)) in
     omega arith
 
@@ -43,7 +44,7 @@ slice_bounds-map_levels-start c = omega (arith, slice_bounds-map_levels-count c)
 
 pub map_levels-requires : goal.map_levels-requires
 map_levels-requires c =
-    let ok = c.args.self.now.accepted in
+    let ok = bands_passed _ c.args.self.now.accepted in
     let inv = c.loop-band.invariant in
     let tone = c.args.tone in
     let old = c.args.output.now in
@@ -60,11 +61,11 @@ map_levels-requires c =
 pub overflow_add-done : goal.overflow_add-done
 overflow_add-done c =
     let inv = c.loop-band.invariant in
-    omega (arith, words_few _ c.args.self.now.accepted inv.walk c.in-Some.ensures.steps c.body-words.ensures inv.at)
+    omega (arith, words_few _ (bands_passed _ c.args.self.now.accepted) inv.walk c.in-Some.ensures.steps c.body-words.ensures inv.at)
 
 pub loop-band-preserved : goal.loop-band-preserved
 loop-band-preserved c =
-    let ok = c.args.self.now.accepted in
+    let ok = bands_passed _ c.args.self.now.accepted in
     let inv = c.loop-band.invariant in
     let tone = c.args.tone in
     let h = c.in-Some.ensures.steps in
@@ -83,4 +84,4 @@ returns c =
     let inv = c.loop-band.invariant in
     inv.content
     ∙ ap (λ ps. onto (levels_under c.args.tone ps) c.args.output.now)
-    (walked_all _ c.args.self.now.accepted inv.walk c.in-None.ensures.steps.0)
+    (walked_all _ (bands_passed _ c.args.self.now.accepted) inv.walk c.in-None.ensures.steps.0)
