@@ -30,8 +30,8 @@ pub fn sample_table() -> [u8; 256]
     SAMPLES
 }
 
-// Levels turned into their samples, each where it stands. No program prints through it yet. By the index: of a `for level in levels` no edit
-// that leaves the first level as it is shows the contract.
+// Levels turned into their samples, each where it stands. No program prints through it yet. By the index: of `for level in levels` no
+// edit that was tried and leaves the first level as it is shows the contract.
 #[tactic(auto, using(crate::proofs::Printing::printing_all, crate::proofs::Printing::printing_done))]
 pub fn through_curve(levels: &mut [u8])
     ensures { levels.new ≡ map sample_of levels.old }
